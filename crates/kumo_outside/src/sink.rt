@@ -1,0 +1,23 @@
+//! Where the log is written to.
+ghost use Rattle.std.specs.Prelude.{◌≡◌, ℕ, ◌<◌, ◌≤◌, List, Option, length, take, IfOk, MatchResult};
+ghost use Rattle.kumo_outside.specs.Causes.{HasCause};
+ghost use Rattle.kumo_outside.specs.Told.{extended};
+
+use crate::faults::Failed;
+
+/// Something that takes bytes in order, as a file or standard output.
+pub trait Sink {
+    /// The bytes taken so far, where they are told.
+    ghost told: { Self → Option (List ℕ) };
+
+    /// The faults counted so far. The count never falls.
+    ghost faults: { Self → ℕ };
+
+    /// Takes bytes from the front of the piece, and answers how many: at least one. After `Failed` nothing was taken
+    /// and one more fault is counted.
+    fn put(&mut self, piece: &[u8]) -> Result<usize, Failed>
+        requires { 0 < length piece.now }
+        ensures taken { IfOk result (λ n. (0 < n) × (n ≤ length piece.now)) }
+        ensures bytes { MatchResult result (λ n. told self.new ≡ extended (told self.old) (take n piece.now)) (λ _. told self.new ≡ told self.old) }
+        ensures cause { HasCause (faults self.old) (faults self.new) result };
+}

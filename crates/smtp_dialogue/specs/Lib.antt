@@ -1,0 +1,4 @@
+pub mod Heard
+pub mod Body
+pub mod Transcript
+pub mod Speaks

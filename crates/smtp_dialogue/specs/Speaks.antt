@@ -1,0 +1,53 @@
+-- What a call of the dialogue does, by the part of the transcript that it stands for.
+use Rattle.std.specs.Prelude.{◌≡◌, ℕ, ◌≤◌, ◌⊎◌, List, [], ◌∷◌, ◌++◌, Bool, true, false, Option}
+use Rattle.kumo_outside.specs.Causes.{Rose}
+use Rattle.kumo_outside.specs.Told.{extended, TakesFront, TakesProperFront}
+use Rattle.kumo_outside.specs.declared.reply.Outcome.{Outcome}
+use Rattle.smtp_dialogue.specs.Transcript.{Spoken, waiting, is_alive}
+
+-- a link and the bytes that were got over it and not yet read
+pub record Side : Type 0 where
+  pub sent : Option (List ℕ)
+  pub got : Option (List ℕ)
+  pub ended : Bool
+  pub faults : ℕ
+  pub unread : List ℕ
+
+abbrev pub side : Option (List ℕ) → Option (List ℕ) → Bool → ℕ → List ℕ → Side
+side sent got ended faults unread = record { sent = sent; got = got; ended = ended; faults = faults; unread = unread }
+
+-- the part was gone through: all of it was sent, and its end is what was answered
+pub record IsWhole (t : Spoken) (old new : Side) (outcomes : List Outcome) (is_left_alive : Bool) : Type 0 where
+  pub sent : new.sent ≡ extended old.sent t.sent
+  pub outcomes_are : outcomes ≡ t.outcomes
+  pub alive_is : is_left_alive ≡ is_alive t.standing
+  pub left : is_left_alive ≡ true → new.unread ≡ t.rest
+  pub waited : t.standing ≡ waiting → new.ended ≡ true
+
+-- the link failed on the way: something was not sent, or a reply that was due is not whole. What was decided before
+-- stays decided; else the outcomes are those of a fault.
+pub record IsCutShort (t : Spoken) (old new : Side) (at_fault outcomes : List Outcome) (is_left_alive : Bool) : Type 0 where
+  pub rose : Rose old.faults new.faults
+  pub alive_is : is_left_alive ≡ false
+  pub not_ended : new.ended ≡ false
+  pub front : TakesFront old.sent new.sent t.sent
+  pub short : (t.standing ≡ waiting) ⊎ TakesProperFront old.sent new.sent t.sent
+  pub outcomes_are : (outcomes ≡ at_fault) ⊎ (outcomes ≡ t.outcomes)
+
+-- the bytes that came in the call, whatever pieces they came in, make the part of the transcript what it is
+pub record Speaks (part : List ℕ → Spoken) (old new : Side) (at_fault outcomes : List Outcome) (is_left_alive : Bool) : Type 0 where
+  pub more : List ℕ
+  pub grows : new.got ≡ extended old.got more
+  pub later : old.faults ≤ new.faults
+  pub spoke :
+      IsWhole (part (old.unread ++ more)) old new outcomes is_left_alive
+      ⊎ IsCutShort (part (old.unread ++ more)) old new at_fault outcomes is_left_alive
+
+-- more bytes behind those that a part read are left to read
+abbrev pub with_more : List ℕ → Spoken → Spoken
+with_more more s = record { sent = s.sent; outcomes = s.outcomes; standing = s.standing; rest = s.rest ++ more }
+
+-- a part that left the link alive stays as it was when more bytes come
+abbrev pub IsStable : (List ℕ → Spoken) → Type 0
+IsStable part =
+    (bytes more : List ℕ) → is_alive (part bytes).standing ≡ true → part (bytes ++ more) ≡ with_more more (part bytes)
