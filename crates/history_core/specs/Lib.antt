@@ -1,0 +1,7 @@
+pub mod History
+pub mod Fate
+pub mod Connection
+pub mod Candidates
+pub mod Openable
+pub mod Legal
+pub mod LogText

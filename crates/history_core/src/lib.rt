@@ -1,13 +1,11 @@
-// A library with one function.
+//! The history of the core: what an entry is, which entry may follow which history, and what is written of each.
+//!
+//! The definitions in specs/ filter and count over plain lists of entries. Whoever keeps a history is held to them, and
+//! whoever writes or reads a log is held to the line of an entry.
 #![tactic(auto)]
 
-ghost use Rattle.std.specs.Prelude.{◌≡◌};
-ghost use Rattle.history_core.specs.Echo.{echo_of};
+mod entry;
 
-// The `ensures` clause is the contract: what `echo` returns is `echo_of` of its argument, a definition
-// in `specs/Echo.antt`, which a caller's clause can cite too.
-pub fn echo(x: usize) -> usize
-    ensures { result ≡ echo_of x }
-{
-    x
-}
+pub use entry::{
+    CONNECTION_LIMIT, Cause, DELIVERIES_PER_CONNECTION, Entry, Event, Next, READY_LIMIT,
+};

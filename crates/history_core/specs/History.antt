@@ -1,0 +1,56 @@
+-- A history is a list of entries, the oldest first.
+use Rattle.std.specs.Prelude.{ℕ, ◌==◌, List, [], ◌∷◌, ◌++◌, Bool, true, false, Option, position, flat_map, fold, codes, if◌then◌else◌}
+use Rattle.std.specs.List.{list_any}
+use Rattle.kumo_outside.specs.declared.message.Message.{Message}
+use Rattle.history_core.specs.declared.entry.Entry.{Entry}
+use Rattle.history_core.specs.declared.entry.Event.{Event}
+use Rattle.history_core.specs.declared.entry.Event.TheVariants.{Accepted, Promoted, Opened, Begun, Ended, Closed, Stopped}
+
+abbrev pub message_in : Event → List Message
+message_in (Accepted m) = m ∷ []
+message_in (Promoted id source) = []
+message_in (Opened conn path key) = []
+message_in (Begun conn id key) = []
+message_in (Ended conn id outcome next) = []
+message_in (Closed conn cause) = []
+message_in Stopped = []
+
+-- the messages that were accepted, in order
+abbrev pub messages : List Entry → List Message
+messages h = flat_map (λ e. message_in e.what) h
+
+abbrev pub has_id : ℕ → Message → Bool
+has_id id m = m.id == id
+
+-- the number of a message: its place among the accepted ones, from 0
+abbrev pub number_of : List Entry → ℕ → Option ℕ
+number_of h id = position (has_id id) (messages h)
+
+abbrev pub is_stopped : Event → Bool
+is_stopped (Accepted m) = false
+is_stopped (Promoted id source) = false
+is_stopped (Opened conn path key) = false
+is_stopped (Begun conn id key) = false
+is_stopped (Ended conn id outcome next) = false
+is_stopped (Closed conn cause) = false
+is_stopped Stopped = true
+
+abbrev pub has_stopped : List Entry → Bool
+has_stopped h = list_any (λ e. is_stopped e.what) h
+
+-- the moment of the last entry, 0 before the first
+abbrev pub last_moment : List Entry → ℕ
+last_moment h = fold (λ was e. e.at) 0 h
+
+-- the one source that is there without a sources file
+abbrev pub unspecified : List ℕ
+unspecified = codes "unspecified"
+
+-- the domain of an accepted message
+abbrev pub domain_at : List Message → ℕ → List ℕ
+domain_at [] id = []
+domain_at (m ∷ ms) id = if has_id id m then m.name.domain else domain_at ms id
+
+-- the text of the path of a message from a source: the source, `->` and the site, which is the domain
+abbrev pub path_of : List Message → ℕ → List ℕ → List ℕ
+path_of ms id source = source ++ codes "->" ++ domain_at ms id

@@ -1,0 +1,136 @@
+-- What is written of a history: one line of compact JSON for each entry, with its keys in byte order.
+use Rattle.std.specs.Prelude.{ℕ, List, [], ◌∷◌, ◌++◌, codes, flat_map}
+use Rattle.std.specs.Int.{w128, to_be_bytes}
+use Rattle.serde_json.specs.Data.{Data, number, unsigned, string, object, Members, member, no_members}
+use Rattle.serde_json.specs.Written.{compact_text}
+use Rattle.uuid.specs.Text.{hyphenated_text, lower}
+use Rattle.kumo_outside.specs.QueueName.{spelling}
+use Rattle.kumo_outside.specs.declared.message.Message.{Message}
+use Rattle.kumo_outside.specs.declared.reply.Lost.{Lost}
+use Rattle.kumo_outside.specs.declared.reply.Lost.TheVariants as lost
+use Rattle.kumo_outside.specs.declared.reply.Outcome.{Outcome}
+use Rattle.kumo_outside.specs.declared.reply.Outcome.TheVariants as outcome
+use Rattle.history_core.specs.declared.entry.Entry.{Entry}
+use Rattle.history_core.specs.declared.entry.Event.{Event}
+use Rattle.history_core.specs.declared.entry.Event.TheVariants.{Accepted, Promoted, Opened, Begun, Ended, Closed, Stopped}
+use Rattle.history_core.specs.declared.entry.Next.{Next}
+use Rattle.history_core.specs.declared.entry.Next.TheVariants.{Settled, Due, Expired}
+use Rattle.history_core.specs.declared.entry.Cause.{Cause}
+use Rattle.history_core.specs.declared.entry.Cause.TheVariants as cause
+
+-- an id as it is printed, in lower case with hyphens
+unfoldable pub id_text : ℕ → List ℕ
+id_text id = hyphenated_text lower (to_be_bytes w128 id)
+
+abbrev pub whole_number : ℕ → Data
+whole_number n = number (unsigned n)
+
+abbrev pub cause_text : Cause → List ℕ
+cause_text cause.Spent = codes "Spent"
+cause_text cause.Shed = codes "Shed"
+cause_text cause.Halted = codes "Halted"
+cause_text cause.Throttled = codes "Throttled"
+cause_text cause.Empty = codes "Empty"
+cause_text cause.Broken = codes "Broken"
+cause_text cause.Refused = codes "Refused"
+cause_text cause.Stop = codes "Stop"
+
+abbrev pub lost_text : Lost → List ℕ
+lost_text lost.LinkFault = codes "LinkFault"
+lost_text lost.Ended = codes "Ended"
+lost_text lost.BadReply = codes "BadReply"
+lost_text lost.TooLong = codes "TooLong"
+
+-- the last member of an ended attempt's line: the reply's text, or why there was none
+abbrev pub decided_by : Outcome → Members
+decided_by (outcome.Delivered r) = member (codes "reply") (string r.text) no_members
+decided_by (outcome.Transient r) = member (codes "reply") (string r.text) no_members
+decided_by (outcome.Permanent r) = member (codes "reply") (string r.text) no_members
+decided_by (outcome.Lost why) = member (codes "lost") (string (lost_text why)) no_members
+
+-- at and by come first, whatever the kind
+abbrev pub reception : ℕ → ℕ → Message → Data
+reception at by m = object
+    (member (codes "at") (whole_number at)
+    (member (codes "body") (string m.body)
+    (member (codes "by") (whole_number by)
+    (member (codes "created") (whole_number m.created)
+    (member (codes "id") (string (id_text m.id))
+    (member (codes "kind") (string (codes "Reception"))
+    (member (codes "queue") (string (spelling m.name))
+    (member (codes "recipient") (string m.recipient)
+    (member (codes "sender") (string m.sender) no_members)))))))))
+
+-- an attempt that ended for good, or whose message is too old
+abbrev pub final_end : ℕ → ℕ → ℕ → ℕ → List ℕ → Outcome → Data
+final_end at by conn id kind decided = object
+    (member (codes "at") (whole_number at)
+    (member (codes "by") (whole_number by)
+    (member (codes "conn") (whole_number conn)
+    (member (codes "id") (string (id_text id))
+    (member (codes "kind") (string kind) (decided_by decided))))))
+
+-- an attempt whose message is due again
+abbrev pub transient_failure : ℕ → ℕ → ℕ → ℕ → ℕ → Outcome → Data
+transient_failure at by conn due id decided = object
+    (member (codes "at") (whole_number at)
+    (member (codes "by") (whole_number by)
+    (member (codes "conn") (whole_number conn)
+    (member (codes "due") (whole_number due)
+    (member (codes "id") (string (id_text id))
+    (member (codes "kind") (string (codes "TransientFailure")) (decided_by decided)))))))
+
+abbrev pub settled_kind : Outcome → List ℕ
+settled_kind (outcome.Delivered r) = codes "Delivery"
+settled_kind (outcome.Transient r) = codes "Bounce"
+settled_kind (outcome.Permanent r) = codes "Bounce"
+settled_kind (outcome.Lost why) = codes "Bounce"
+
+abbrev pub ended_data : ℕ → ℕ → ℕ → ℕ → Outcome → Next → Data
+ended_data at by conn id decided Settled = final_end at by conn id (settled_kind decided) decided
+ended_data at by conn id decided (Due moment) = transient_failure at by conn moment id decided
+ended_data at by conn id decided Expired = final_end at by conn id (codes "Expiration") decided
+
+abbrev pub event_data : ℕ → ℕ → Event → Data
+event_data at by (Accepted m) = reception at by m
+event_data at by (Promoted id source) = object
+    (member (codes "at") (whole_number at)
+    (member (codes "by") (whole_number by)
+    (member (codes "id") (string (id_text id))
+    (member (codes "kind") (string (codes "Promoted"))
+    (member (codes "source") (string source) no_members)))))
+event_data at by (Opened conn path key) = object
+    (member (codes "at") (whole_number at)
+    (member (codes "by") (whole_number by)
+    (member (codes "conn") (whole_number conn)
+    (member (codes "key") (whole_number key)
+    (member (codes "kind") (string (codes "Opened"))
+    (member (codes "path") (string path) no_members))))))
+event_data at by (Begun conn id key) = object
+    (member (codes "at") (whole_number at)
+    (member (codes "by") (whole_number by)
+    (member (codes "conn") (whole_number conn)
+    (member (codes "id") (string (id_text id))
+    (member (codes "key") (whole_number key)
+    (member (codes "kind") (string (codes "Begun")) no_members))))))
+event_data at by (Ended conn id decided next) = ended_data at by conn id decided next
+event_data at by (Closed conn why) = object
+    (member (codes "at") (whole_number at)
+    (member (codes "by") (whole_number by)
+    (member (codes "cause") (string (cause_text why))
+    (member (codes "conn") (whole_number conn)
+    (member (codes "kind") (string (codes "Closed")) no_members)))))
+event_data at by Stopped = object
+    (member (codes "at") (whole_number at)
+    (member (codes "by") (whole_number by)
+    (member (codes "kind") (string (codes "Stopped")) no_members)))
+
+unfoldable pub entry_data : Entry → Data
+entry_data e = event_data e.at e.who e.what
+
+-- the line of an entry, with its line feed
+unfoldable pub line_of : Entry → List ℕ
+line_of e = compact_text (entry_data e) ++ 10 ∷ []
+
+abbrev pub log_text : List Entry → List ℕ
+log_text h = flat_map line_of h

@@ -1,0 +1,78 @@
+//! One event of the core, as the history keeps it and the log prints it.
+use kumo_outside::{Message, Outcome, Text};
+
+/// The most open connections of a path, where nothing else is set (KumoMTA, `connection_limit`).
+pub const CONNECTION_LIMIT: u32 = 32;
+
+/// The most attempts on one connection, where nothing else is set (KumoMTA, `max_deliveries_per_connection`).
+pub const DELIVERIES_PER_CONNECTION: u32 = 1024;
+
+/// The most ready messages of a path, where nothing else is set (KumoMTA, `max_ready`).
+pub const READY_LIMIT: u32 = 1024;
+
+/// An event, when it was and by which pass.
+#[derive(Drop)]
+pub struct Entry {
+    /// Milliseconds since 1970.
+    pub at: u64,
+    /// The number of the pass whose turn it was, 0 for the owner.
+    pub who: u32,
+    pub what: Event,
+}
+
+/// What happened.
+#[derive(Drop)]
+pub enum Event {
+    /// The message was taken over.
+    Accepted(Message),
+    /// The message went from its scheduled queue to the ready queue of a path.
+    Promoted { id: u128, source: Text },
+    /// A connection of the path was opened. Connections are numbered from 1. The key names the rule that its rate
+    /// counts under, 0 where there is none.
+    Opened { conn: u64, path: Text, key: u32 },
+    /// An attempt began. The key is as above.
+    Begun { conn: u64, id: u128, key: u32 },
+    /// The attempt ended.
+    Ended {
+        conn: u64,
+        id: u128,
+        outcome: Outcome,
+        next: Next,
+    },
+    /// The connection was closed.
+    Closed { conn: u64, cause: Cause },
+    /// The work ended.
+    Stopped,
+}
+
+/// What an ended attempt means for its message.
+#[derive(Clone, Copy, Debug, PartialEq, Eq)]
+pub enum Next {
+    /// It has its fate: delivered or refused for good.
+    Settled,
+    /// It is due again at this moment, in milliseconds since 1970.
+    Due(u64),
+    /// It has its fate: too old to be tried again.
+    Expired,
+}
+
+/// Why a connection was closed.
+#[derive(Clone, Copy, Debug, PartialEq, Eq)]
+pub enum Cause {
+    /// It has had its number of attempts.
+    Spent,
+    /// The path has more connections than its limit now allows.
+    Shed,
+    /// The path is suspended.
+    Halted,
+    /// The rate of messages admits none now.
+    Throttled,
+    /// No ready message is left for it.
+    Empty,
+    /// The last attempt left the link unusable.
+    Broken,
+    /// No host of the path greeted.
+    Refused,
+    /// The work ends.
+    Stop,
+}
