@@ -36,7 +36,7 @@ pub use name::{NAME_LIMIT, QueueName};
 pub use reply::{Lost, Outcome, REPLY_TEXT_LIMIT, Reply};
 pub use room::Room;
 pub use session::Session;
-pub use sink::Sink;
+pub use sink::{Sink, put_all};
 pub use stdout_sink::StdoutSink;
 pub use text::Text;
 pub use texts::Texts;

@@ -1,0 +1,14 @@
+use Rattle.std.proofs.Common.{◌≡◌, ◌≤◌, ◌-◌, length, take}
+use Rattle.kumo_outside.specs.Told.{extended}
+use Rattle.kumo_outside.proofs.sink.put_all.Given as goal
+
+-- so far the bytes before `at` were taken
+abbrev pub invariant-loop-at : goal.invariant-loop-at
+invariant-loop-at g l = record {
+  within : l.at ≤ length l.bytes;
+  taken : g.O.Sink.told l.out ≡ extended (g.O.Sink.told l.fn.out) (take l.at l.bytes);
+  later : g.O.Sink.faults l.fn.out ≤ g.O.Sink.faults l.out;
+}
+
+abbrev pub decreases-loop-at : goal.decreases-loop-at
+decreases-loop-at g l = length l.bytes - l.at
