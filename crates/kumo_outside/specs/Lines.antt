@@ -11,3 +11,12 @@ numbered_from n (line ∷ more) =
 
 abbrev pub numbered_lines : List ℕ → List (ℕ × List ℕ)
 numbered_lines text = numbered_from 1 (lines text)
+
+-- a text that is being read line by line: what is left of it, and the number of the first line there
+pub record Numbering : Type 0 where
+  pub number : ℕ
+  pub rest : List ℕ
+
+-- the lines that are left
+abbrev pub left : Numbering → List (ℕ × List ℕ)
+left l = numbered_from l.number (lines l.rest)

@@ -1,13 +1,26 @@
-// A library with one function.
+//! Reads mail lines: the JSON objects, one a line, that name the messages to send.
+//!
+//! Called once for a whole text. What it answers is the definition's reading of the bytes, both ways: the messages
+//! exactly where the text gives them, a refusal exactly where it says so.
 #![tactic(auto)]
 
-ghost use Rattle.std.specs.Prelude.{◌≡◌};
-ghost use Rattle.mail_input.specs.Echo.{echo_of};
+/// The most bytes of a mail text that are read so far.
+pub const MAIL_LIMIT: usize = 65_536;
 
-// The `ensures` clause is the contract: what `echo` returns is `echo_of` of its argument, a definition
-// in `specs/Echo.antt`, which a caller's clause can cite too.
-pub fn echo(x: usize) -> usize
-    ensures { result ≡ echo_of x }
-{
-    x
+/// Why a line is refused.
+#[derive(Clone, Copy, Debug, PartialEq, Eq)]
+pub enum MailWhy {
+    /// The line does not keep the rules of a mail line.
+    Refused,
+}
+
+/// Why a mail text gives no messages.
+#[derive(Clone, Copy, Debug, PartialEq, Eq)]
+pub enum MailFault {
+    /// The first refused line, counted from 1.
+    At { line: u64, why: MailWhy },
+    /// The text is longer, has more lines or names other queues than are read so far.
+    NotYet,
+    /// There was no memory.
+    Memory,
 }
