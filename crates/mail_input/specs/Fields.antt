@@ -47,6 +47,11 @@ body_in d = option_and_then (only_if (λ text. nat_le (length text) BODY_LIMIT))
 abbrev pub queue_of : List ℕ → Name
 queue_of recipient = record { campaign = None; tenant = None; domain = domain_of recipient }
 
+infixl 10 ◌>>=◌
+-- the next step, where there is a value
+abbrev pub ◌>>=◌ : {A B : Type 0} → Option A → (A → Option B) → Option B
+o >>= f = option_and_then f o
+
 -- the message that an object gives, where each field keeps its rule
 unfoldable pub message_of : Data → Option Message
 message_of d = do
