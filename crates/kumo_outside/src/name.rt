@@ -28,6 +28,17 @@ impl Model for QueueName {
 }
 
 impl QueueName {
+    /// An equal name.
+    pub fn copy(&self, alloc: Global) -> Result<QueueName, Memory>
+        ensures { IfOk result (λ copy. copy ≡ self.now) }
+    {
+        Ok(QueueName {
+            campaign: copy_component(alloc, &self.campaign)?,
+            tenant: copy_component(alloc, &self.tenant)?,
+            domain: self.domain.copy(alloc)?,
+        })
+    }
+
     /// Appends the name's one spelling. After `Memory` the text is as it was.
     pub fn text_into(&self, alloc: Global, out: &mut Text) -> Result<(), Memory>
         ensures ok { OnOk result (out.new ≡ out.old ++ spelling self.now) }
@@ -35,6 +46,16 @@ impl QueueName {
     {
         let spelled = spelled(alloc, &self.campaign, &self.tenant, &self.domain)?;
         out.push_str(spelled.as_str())
+    }
+}
+
+/// A copy of a component, where it is there.
+fn copy_component(alloc: Global, component: &Option<Text>) -> Result<Option<Text>, Memory>
+    ensures { IfOk result (λ copy. copy ≡ component.now) }
+{
+    match component {
+        Some(text) => Ok(Some(text.copy(alloc)?)),
+        None => Ok(None),
     }
 }
 
