@@ -5,7 +5,9 @@
 #![tactic(auto)]
 
 mod entry;
+mod history;
 
 pub use entry::{
     CONNECTION_LIMIT, Cause, DELIVERIES_PER_CONNECTION, Entry, Event, Next, READY_LIMIT,
 };
+pub use history::History;

@@ -1,0 +1,54 @@
+-- Each entry of the run of one delivered message may follow those before it.
+use Rattle.std.proofs.Common.{eq-eqb, ◌≡◌, ℕ, ◌≤◌, ◌==◌, nat_eq, List, [], ◌∷◌, ◌++◌, true, refl, sym, subst, ap, arith, append_assoc, append-nil, bytes_eq}
+use Rattle.kumo_outside.specs.Message.{IsProperMessage}
+use Rattle.kumo_outside.specs.ReplyText.{IsReplyOf}
+use Rattle.kumo_outside.specs.declared.message.Message.{Message}
+use Rattle.kumo_outside.specs.declared.reply.Reply.{Reply}
+use Rattle.kumo_outside.specs.declared.reply.Outcome.TheVariants.{Delivered}
+use Rattle.history_core.specs.declared.entry.Entry.{Entry}
+use Rattle.history_core.specs.declared.entry.Event.TheVariants as event
+use Rattle.history_core.specs.declared.entry.Next.TheVariants.{Settled}
+use Rattle.history_core.specs.declared.entry.Cause.TheVariants.{Empty}
+use Rattle.history_core.specs.History.{unspecified}
+use Rattle.history_core.specs.Legal.{MayFollow, LegalAfter, IsLegal, IsProperEntry}
+use Rattle.kumo_run.specs.Steps.{entry, path_to, accepted, promoted, opened, begun, ended, closed, stopped}
+
+same_number : (n : ℕ) → (n == n) ≡ true
+same_number n = eq-eqb n n refl
+
+same_text : (xs : List ℕ) → bytes_eq xs xs ≡ true
+same_text [] = refl
+same_text (x ∷ xs) = rw (same_number x) (same_text xs)
+
+LegalAfter-push : (before later : List Entry) (e : Entry) → LegalAfter before later → MayFollow (before ++ later) e → LegalAfter before (later ++ e ∷ [])
+LegalAfter-push before [] e legal follows = let P : List Entry → Type 0 = λ h. MayFollow h e in (subst P (append-nil before) follows, tt)
+LegalAfter-push before (x ∷ later) e legal follows =
+    let P : List Entry → Type 0 = λ h. MayFollow h e in
+    (legal.0, LegalAfter-push (before ++ x ∷ []) later e legal.1 (subst P (sym (append_assoc before (x ∷ []) later)) follows))
+
+pub IsLegal-push : (h : List Entry) (e : Entry) → IsLegal h → MayFollow h e → IsLegal (h ++ e ∷ [])
+IsLegal-push h e legal follows = LegalAfter-push [] h e legal follows
+
+pub may_accept : (m : Message) → IsProperMessage m → MayFollow [] (entry (event.Accepted m))
+may_accept m p = record { running = refl; proper = record { moment = omega arith; event = p }; later = omega arith; row = refl }
+
+pub may_promote : (m : Message) → MayFollow (accepted m) (entry (event.Promoted m.id unspecified))
+may_promote m = record { running = refl; proper = record { moment = omega arith; event = tt }; later = omega arith; row = (refl, refl) }
+
+pub may_open : (m : Message) → MayFollow (promoted m) (entry (event.Opened 1 (path_to m) 0))
+may_open m = record { running = refl; proper = record { moment = omega arith; event = tt }; later = omega arith; row = (simp (same_number m.id, same_text m.name.domain), refl, simp (same_number m.id, same_text m.name.domain), refl) }
+
+pub may_begin : (m : Message) → MayFollow (opened m) (entry (event.Begun 1 m.id 0))
+may_begin m = record { running = refl; proper = record { moment = omega arith; event = tt }; later = omega arith; row = (refl, refl, simp (same_number m.id, same_text m.name.domain), refl) }
+
+pub may_end : (m : Message) (reply : Reply) → IsReplyOf 2 reply → MayFollow (begun m) (entry (event.Ended 1 m.id (Delivered reply) Settled))
+may_end m reply p = record { running = refl; proper = record { moment = omega arith; event = (p, tt) }; later = omega arith; row = (refl, refl, refl) }
+
+pub may_close : (m : Message) (reply : Reply) → MayFollow (ended m reply) (entry (event.Closed 1 Empty))
+may_close m reply = record { running = refl; proper = record { moment = omega arith; event = tt }; later = omega arith; row = (refl, refl, tt) }
+
+pub may_stop : (m : Message) (reply : Reply) → MayFollow (closed m reply) (entry event.Stopped)
+may_stop m reply = record { running = refl; proper = record { moment = omega arith; event = tt }; later = omega arith; row = (refl, simp (same_number m.id)) }
+
+pub may_stop_at_once : MayFollow [] (entry event.Stopped)
+may_stop_at_once = record { running = refl; proper = record { moment = omega arith; event = tt }; later = omega arith; row = (refl, refl) }

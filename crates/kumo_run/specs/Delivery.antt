@@ -1,0 +1,31 @@
+-- What a session tells of one message.
+use Rattle.std.specs.Prelude.{◌≡◌, ℕ, List, [], ◌∷◌, codes}
+use Rattle.kumo_outside.specs.declared.message.Message.{Message}
+use Rattle.kumo_outside.specs.declared.session.Session.{Session}
+use Rattle.kumo_outside.specs.declared.reply.Reply.{Reply}
+use Rattle.kumo_outside.specs.declared.reply.Outcome.TheVariants.{Delivered}
+use Rattle.history_core.specs.History.{unspecified}
+use Rattle.smtp_dialogue.specs.Transcript.{Spoken, alive, before_parting, IsFront, IsTranscript}
+
+-- the name that a source without one of its own gives in EHLO
+abbrev pub localhost : List ℕ
+localhost = codes "localhost"
+
+-- the greeting and the attempt, for the bytes that the session got
+abbrev pub up_to_quit : Message → Session → Spoken
+up_to_quit m s = before_parting localhost (m ∷ []) s.got
+
+-- the session greeted, and the attempt was sent whole and answered by this reply
+pub record IsDeliveredBy (m : Message) (reply : Reply) (s : Session) : Type 0 where
+  pub through : (up_to_quit m s).standing ≡ alive
+  pub outcome : (up_to_quit m s).outcomes ≡ Delivered reply ∷ []
+  pub sent : IsFront (up_to_quit m s).sent s.sent
+
+abbrev pub IsNotDelivered : Message → Session → Type 0
+IsNotDelivered m s = (reply : Reply) → IsDeliveredBy m reply s → ⊥
+
+-- the one session of the message
+pub record IsSessionOf (m : Message) (s : Session) : Type 0 where
+  pub host : s.host ≡ m.name.domain
+  pub source : s.source ≡ unspecified
+  pub transcript : IsTranscript localhost (m ∷ []) s

@@ -1,0 +1,48 @@
+-- A run that went to its end.
+use Rattle.std.specs.Prelude.{◌≡◌, ℕ, List, [], ◌∷◌, ◌++◌, Bool, true, All, length, flat_map, fold, false}
+use Rattle.kumo_outside.specs.declared.message.Message.{Message}
+use Rattle.kumo_outside.specs.declared.session.Session.{Session}
+use Rattle.kumo_outside.specs.declared.reply.Reply.{Reply}
+use Rattle.kumo_outside.specs.declared.reply.Outcome.{Outcome}
+use Rattle.kumo_outside.specs.declared.reply.Outcome.TheVariants.{Delivered}
+use Rattle.history_core.specs.declared.entry.Entry.{Entry}
+use Rattle.history_core.specs.declared.entry.Event.{Event}
+use Rattle.history_core.specs.declared.entry.Event.TheVariants.{Accepted, Promoted, Opened, Begun, Ended, Closed, Stopped}
+use Rattle.history_core.specs.History.{messages, is_stopped}
+use Rattle.history_core.specs.Fate.{fate_of, pending}
+use Rattle.history_core.specs.Legal.{IsLegal}
+use Rattle.kumo_run.specs.Delivery.{IsSessionOf, IsDeliveredBy}
+
+abbrev pub outcome_in : Event → List Outcome
+outcome_in (Accepted m) = []
+outcome_in (Promoted id source) = []
+outcome_in (Opened conn path key) = []
+outcome_in (Begun conn id key) = []
+outcome_in (Ended conn id outcome next) = outcome ∷ []
+outcome_in (Closed conn cause) = []
+outcome_in Stopped = []
+
+-- what became of the attempts, in the order in which they ended
+abbrev pub outcomes : List Entry → List Outcome
+outcomes h = flat_map (λ e. outcome_in e.what) h
+
+abbrev pub ends_with_stopped : List Entry → Bool
+ends_with_stopped h = fold (λ was e. is_stopped e.what) false h
+
+-- without a message no session; with one the one session is its transcript and tells the delivery that the history has
+abbrev pub Talked : List Message → List Entry → List Session → Type 0
+Talked [] h sessions = sessions ≡ []
+Talked (m ∷ []) h sessions =
+    (s : Session) × (reply : Reply) × (sessions ≡ s ∷ []) × IsSessionOf m s × IsDeliveredBy m reply s
+    × (outcomes h ≡ Delivered reply ∷ [])
+Talked (m ∷ n ∷ more) h sessions = ⊥
+
+pub record IsRun (mail : List Message) (h : List Entry) (sessions : List Session) : Type 0 where
+  pub legal : IsLegal h
+  pub stopped : ends_with_stopped h ≡ true
+  -- what was accepted is the mail
+  pub accepted : messages h ≡ mail
+  -- each message has one fate, and none is pending
+  pub fates : All (λ m. length (fate_of h m.id) ≡ 1) mail
+  pub nothing_pending : pending h ≡ []
+  pub talked : Talked mail h sessions

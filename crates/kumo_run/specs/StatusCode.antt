@@ -1,0 +1,13 @@
+-- The number of each status.
+use Rattle.std.specs.Prelude.{ℕ}
+use Rattle.kumo_run.specs.declared.status.Status.{Status}
+use Rattle.kumo_run.specs.declared.status.Status.TheVariants.{Drained, Usage, Mail, ReadFault, WriteFault, Memory, NotYet}
+
+abbrev pub code_of : Status → ℕ
+code_of Drained = 0
+code_of Usage = 2
+code_of Mail = 4
+code_of ReadFault = 5
+code_of WriteFault = 6
+code_of Memory = 11
+code_of NotYet = 12

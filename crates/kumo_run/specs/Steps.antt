@@ -1,0 +1,39 @@
+-- The run of one message that is delivered, entry by entry. Every moment is 0, and the one pass has the number 0.
+use Rattle.std.specs.Prelude.{ℕ, List, [], ◌∷◌, ◌++◌, codes}
+use Rattle.kumo_outside.specs.declared.message.Message.{Message}
+use Rattle.kumo_outside.specs.declared.reply.Reply.{Reply}
+use Rattle.kumo_outside.specs.declared.reply.Outcome.TheVariants.{Delivered}
+use Rattle.history_core.specs.declared.entry.Entry.{Entry}
+use Rattle.history_core.specs.declared.entry.Event.{Event}
+use Rattle.history_core.specs.declared.entry.Event.TheVariants as event
+use Rattle.history_core.specs.declared.entry.Next.TheVariants.{Settled}
+use Rattle.history_core.specs.declared.entry.Cause.TheVariants.{Empty}
+use Rattle.history_core.specs.History.{unspecified}
+
+abbrev pub entry : Event → Entry
+entry what = record { at = 0; who = 0; what = what }
+
+-- the path of the message from the source `unspecified`
+abbrev pub path_to : Message → List ℕ
+path_to m = unspecified ++ codes "->" ++ m.name.domain
+
+abbrev pub accepted : Message → List Entry
+accepted m = entry (event.Accepted m) ∷ []
+
+abbrev pub promoted : Message → List Entry
+promoted m = accepted m ++ entry (event.Promoted m.id unspecified) ∷ []
+
+abbrev pub opened : Message → List Entry
+opened m = promoted m ++ entry (event.Opened 1 (path_to m) 0) ∷ []
+
+abbrev pub begun : Message → List Entry
+begun m = opened m ++ entry (event.Begun 1 m.id 0) ∷ []
+
+abbrev pub ended : Message → Reply → List Entry
+ended m reply = begun m ++ entry (event.Ended 1 m.id (Delivered reply) Settled) ∷ []
+
+abbrev pub closed : Message → Reply → List Entry
+closed m reply = ended m reply ++ entry (event.Closed 1 Empty) ∷ []
+
+abbrev pub stopped : List Entry → List Entry
+stopped h = h ++ entry event.Stopped ∷ []

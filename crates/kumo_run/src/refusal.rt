@@ -1,0 +1,101 @@
+//! Why no work was done, and the one line that is printed of it.
+ghost use Rattle.std.specs.Prelude.{◌≡◌, ◌≤◌, ◌++◌, OnOk, OnErr, codes, decimal};
+ghost use Rattle.kumo_outside.specs.Causes.{Rose, HasCause};
+ghost use Rattle.kumo_outside.specs.Told.{extended, TakesFront};
+ghost use Rattle.kumo_run.specs.RefusalLine.{refusal_line, status_of};
+
+use crate::status::Status;
+use itoa::Buffer;
+use kumo_outside::{Failed, Sink, put_all};
+
+/// Why no work was done.
+#[derive(Clone, Copy, Debug, PartialEq, Eq)]
+pub enum Refusal {
+    /// The words are no command.
+    Usage,
+    /// This line of the mail is the first refused one.
+    Mail { line: u64 },
+    /// A text could not be read.
+    ReadFault,
+    /// There was no memory.
+    Memory,
+    /// The mail holds more than is sent so far.
+    NotYetMail,
+    /// The receiver did not take the message, which is not followed up so far.
+    NotYetReply,
+}
+
+impl Refusal {
+    /// The status that the run ends with.
+    pub fn status(self) -> Status
+        ensures { result ≡ status_of self }
+    {
+        match self {
+            Refusal::Usage => Status::Usage,
+            Refusal::Mail { .. } => Status::Mail,
+            Refusal::ReadFault => Status::ReadFault,
+            Refusal::Memory => Status::Memory,
+            Refusal::NotYetMail | Refusal::NotYetReply => Status::NotYet,
+        }
+    }
+
+    /// Prints the refusal's line. Where the sink fails a front of it was printed; a refusal stays what it is.
+    pub fn print<O: Sink>(self, out: &mut O)
+        ensures front { TakesFront (O.told out.old) (O.told out.new) (refusal_line self) }
+        ensures whole { (Rose (O.faults out.old) (O.faults out.new) → ⊥) → O.told out.new ≡ extended (O.told out.old) (refusal_line self) }
+        ensures later { O.faults out.old ≤ O.faults out.new }
+    {
+        match put_line(self, out) {
+            Ok(()) => (),
+            Err(Failed) => (),
+        }
+    }
+}
+
+/// Puts the refusal's line, without memory.
+fn put_line<O: Sink>(refusal: Refusal, out: &mut O) -> Result<(), Failed>
+    ensures whole { OnOk result (O.told out.new ≡ extended (O.told out.old) (refusal_line refusal)) }
+    ensures part { OnErr result (TakesFront (O.told out.old) (O.told out.new) (refusal_line refusal)) }
+    ensures cause { HasCause (O.faults out.old) (O.faults out.new) result }
+{
+    match refusal {
+        Refusal::Usage => put_text(out, "error: usage\n"),
+        Refusal::Mail { line } => put_mail_line(line, out),
+        Refusal::ReadFault => put_text(out, "error: read fault\n"),
+        Refusal::Memory => put_text(out, "error: memory\n"),
+        Refusal::NotYetMail => put_text(out, "error: not yet mail\n"),
+        Refusal::NotYetReply => put_text(out, "error: not yet reply\n"),
+    }
+}
+
+/// Puts the line of a refused mail line.
+fn put_mail_line<O: Sink>(line: u64, out: &mut O) -> Result<(), Failed>
+    ensures whole { OnOk result (O.told out.new ≡ extended (O.told out.old) (refusal_line (Refusal.Mail line))) }
+    ensures part { OnErr result (TakesFront (O.told out.old) (O.told out.new) (refusal_line (Refusal.Mail line))) }
+    ensures cause { HasCause (O.faults out.old) (O.faults out.new) result }
+{
+    let mut buffer = Buffer::new();
+    put_three(out, "error: mail line ", buffer.format(line), ": Refused\n")?;
+    Ok(())
+}
+
+/// Puts three texts, one behind the other.
+fn put_three<O: Sink>(out: &mut O, first: &str, second: &str, third: &str) -> Result<(), Failed>
+    ensures whole { OnOk result (O.told out.new ≡ extended (O.told out.old) (first.now ++ (second.now ++ third.now))) }
+    ensures part { OnErr result (TakesFront (O.told out.old) (O.told out.new) (first.now ++ (second.now ++ third.now))) }
+    ensures cause { HasCause (O.faults out.old) (O.faults out.new) result }
+{
+    put_text(out, first)?;
+    put_text(out, second)?;
+    put_text(out, third)?;
+    Ok(())
+}
+
+/// Puts a text.
+fn put_text<O: Sink>(out: &mut O, text: &str) -> Result<(), Failed>
+    ensures whole { OnOk result (O.told out.new ≡ extended (O.told out.old) text.now) }
+    ensures part { OnErr result (TakesFront (O.told out.old) (O.told out.new) text.now) }
+    ensures cause { HasCause (O.faults out.old) (O.faults out.new) result }
+{
+    put_all(out, text.as_bytes())
+}

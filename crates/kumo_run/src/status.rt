@@ -1,0 +1,39 @@
+//! How a call of the program ends.
+ghost use Rattle.std.specs.Prelude.{◌≡◌};
+ghost use Rattle.kumo_run.specs.StatusCode.{code_of};
+
+/// The status of a run; its number is the exit status of the process.
+#[derive(Clone, Copy, Debug, PartialEq, Eq)]
+pub enum Status {
+    /// Every message has its fate, and the log was written whole.
+    Drained,
+    /// The words are no command.
+    Usage,
+    /// The mail text is refused.
+    Mail,
+    /// A text could not be read.
+    ReadFault,
+    /// The log could not be written whole.
+    WriteFault,
+    /// There was no memory.
+    Memory,
+    /// The input is good, and what it asks for is not built yet.
+    NotYet,
+}
+
+impl Status {
+    /// The exit status.
+    pub fn code(self) -> u8
+        ensures { result ≡ code_of self }
+    {
+        match self {
+            Status::Drained => 0,
+            Status::Usage => 2,
+            Status::Mail => 4,
+            Status::ReadFault => 5,
+            Status::WriteFault => 6,
+            Status::Memory => 11,
+            Status::NotYet => 12,
+        }
+    }
+}
