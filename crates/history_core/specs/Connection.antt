@@ -1,5 +1,5 @@
 -- Connections, what they are busy with, and the messages that are ready on a path.
-use Rattle.std.specs.Prelude.{ℕ, ◌==◌, List, [], ◌∷◌, ◌++◌, Bool, true, false, not, ◌&&◌, ◌||◌, Option, Some, None, filter, find, flat_map, count_by, bytes_eq, if◌then◌else◌, IsTrue}
+use Rattle.std.specs.Prelude.{ℕ, ◌==◌, List, [], ◌∷◌, ◌++◌, Bool, true, false, not, ◌&&◌, ◌||◌, Option, Some, None, filter, flat_map, count_by, bytes_eq, if◌then◌else◌, IsTrue}
 use Rattle.std.specs.List.{list_any}
 use Rattle.kumo_outside.specs.declared.message.Message.{Message}
 use Rattle.history_core.specs.declared.entry.Entry.{Entry}

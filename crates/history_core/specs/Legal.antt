@@ -1,5 +1,5 @@
 -- Which entry may follow which history, and which history is legal.
-use Rattle.std.specs.Prelude.{◌≡◌, ℕ, ◌+◌, ◌≤◌, List, [], ◌∷◌, ◌++◌, Bool, false, Option, Some, None, length, ⊤}
+use Rattle.std.specs.Prelude.{◌≡◌, ℕ, ◌+◌, ◌≤◌, List, [], ◌∷◌, ◌++◌, false, Some, None, length, ⊤}
 use Rattle.std.specs.List.{list_any}
 use Rattle.kumo_outside.specs.Message.{IsProperMessage}
 use Rattle.kumo_outside.specs.ReplyText.{IsProperOutcome}

@@ -26,12 +26,23 @@ pub enum Event {
     /// The message was taken over.
     Accepted(Message),
     /// The message went from its scheduled queue to the ready queue of a path.
-    Promoted { id: u128, source: Text },
+    Promoted {
+        id: u128,
+        source: Text,
+    },
     /// A connection of the path was opened. Connections are numbered from 1. The key names the rule that its rate
     /// counts under, 0 where there is none.
-    Opened { conn: u64, path: Text, key: u32 },
+    Opened {
+        conn: u64,
+        path: Text,
+        key: u32,
+    },
     /// An attempt began. The key is as above.
-    Begun { conn: u64, id: u128, key: u32 },
+    Begun {
+        conn: u64,
+        id: u128,
+        key: u32,
+    },
     /// The attempt ended.
     Ended {
         conn: u64,
@@ -40,7 +51,10 @@ pub enum Event {
         next: Next,
     },
     /// The connection was closed.
-    Closed { conn: u64, cause: Cause },
+    Closed {
+        conn: u64,
+        cause: Cause,
+    },
     /// The work ended.
     Stopped,
 }

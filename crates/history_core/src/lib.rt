@@ -6,6 +6,7 @@
 
 mod entry;
 mod history;
+pub mod laws;
 
 pub use entry::{
     CONNECTION_LIMIT, Cause, DELIVERIES_PER_CONNECTION, Entry, Event, Next, READY_LIMIT,

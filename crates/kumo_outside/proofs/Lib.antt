@@ -1,2 +1,3 @@
 pub mod ToldLemmas
 mod SplitLemmas
+pub mod AddressLemmas

@@ -1,6 +1,6 @@
 -- How told bytes grow over several calls.
-use Rattle.std.proofs.Common.{◌≡◌, ℕ, ◌+◌, ◌≤◌, List, [], ◌∷◌, ◌++◌, Option, Some, None, length, take, drop, refl, sym, ap, ◌∙◌, append_assoc, append-nil}
-use Rattle.kumo_outside.specs.Told.{extended, ExtendsByFront, TakesFront, TakesProperFront}
+use Rattle.std.proofs.Common.{◌≡◌, ℕ, List, [], ◌∷◌, ◌++◌, Option, Some, None, refl, sym, ap, ◌∙◌, append_assoc, append-nil}
+use Rattle.kumo_outside.specs.Told.{extended, TakesFront, TakesProperFront}
 
 pub extended-extended : (told : Option (List ℕ)) (xs ys : List ℕ) → extended (extended told xs) ys ≡ extended told (xs ++ ys)
 unfolding extended

@@ -1,5 +1,5 @@
 -- What the devices in memory are seen as.
-use Rattle.std.specs.Prelude.{◌≡◌, ℕ, ◌+◌, ◌-◌, ◌^◌, ◌==◌, min, List, [], ◌∷◌, Bool, Option, Some, None, if◌then◌else◌, bytes_eq, IsTrue}
+use Rattle.std.specs.Prelude.{ℕ, ◌+◌, ◌-◌, ◌^◌, ◌==◌, min, List, [], ◌∷◌, Bool, Option, Some, None, if◌then◌else◌, bytes_eq}
 use Rattle.std.specs.List.{list_any}
 
 -- names with their bytes, the numbers of the calls that are to fail, the calls made and the faults counted

@@ -1,5 +1,5 @@
 -- Names of scheduled queues, `campaign:tenant@domain`, and their one spelling (KumoMTA's manual, queue names).
-use Rattle.std.specs.Prelude.{ℕ, ◌<◌, ◌==◌, nat_lt, nat_le, List, [], ◌∷◌, ◌++◌, length, Bool, true, not, ◌&&◌, ◌||◌, Option, Some, None}
+use Rattle.std.specs.Prelude.{ℕ, ◌==◌, nat_lt, nat_le, List, ◌∷◌, ◌++◌, length, Bool, true, not, ◌&&◌, Option, Some, None}
 use Rattle.std.specs.List.{list_all}
 use Rattle.kumo_outside.specs.declared.name.TheConstants.{NAME_LIMIT}
 

@@ -1,8 +1,7 @@
 -- Replies to an SMTP client, and when an outcome of an attempt keeps their rules (RFC 5321 sections 4.2 and 4.3).
-use Rattle.std.specs.Prelude.{◌≡◌, ℕ, ◌+◌, ◌/◌, ◌%◌, ◌<◌, ◌≤◌, ◌⊎◌, nat_le, List, [], ◌∷◌, ◌++◌, length, take, map, Bool, ◌&&◌, if◌then◌else◌, IsTrue, ⊤}
+use Rattle.std.specs.Prelude.{◌≡◌, ℕ, ◌+◌, ◌/◌, ◌%◌, ◌<◌, ◌≤◌, ◌⊎◌, nat_le, List, [], ◌∷◌, ◌++◌, length, Bool, ◌&&◌, IsTrue, ⊤}
 use Rattle.std.specs.List.{list_all}
 use Rattle.kumo_outside.specs.declared.reply.Reply.{Reply}
-use Rattle.kumo_outside.specs.declared.reply.Lost.{Lost}
 use Rattle.kumo_outside.specs.declared.reply.Outcome.{Outcome}
 use Rattle.kumo_outside.specs.declared.reply.Outcome.TheVariants as outcome
 use Rattle.kumo_outside.specs.declared.reply.TheConstants.{REPLY_TEXT_LIMIT}

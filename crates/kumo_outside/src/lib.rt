@@ -5,6 +5,7 @@
 //! so that a caller can be held to "this answer comes only where the outside failed".
 #![tactic(auto)]
 
+mod address;
 mod bytes;
 mod faults;
 mod file_texts;
@@ -21,9 +22,12 @@ mod room;
 mod session;
 mod sink;
 mod stdout_sink;
+#[cfg(test)]
+mod tests;
 mod text;
 mod texts;
 
+pub use address::{domain_of, is_address};
 pub use bytes::Bytes;
 pub use faults::{Failed, Memory};
 pub use file_texts::FileTexts;

@@ -1,2 +1,6 @@
 mod ResultLemmas
 mod StepLemmas
+mod SessionLemmas
+pub mod LogLines
+pub mod LogWriting
+mod MailLemmas

@@ -10,7 +10,7 @@ use Rattle.history_core.specs.declared.entry.Event.TheVariants as event
 use Rattle.history_core.specs.declared.entry.Next.TheVariants.{Settled}
 use Rattle.history_core.specs.declared.entry.Cause.TheVariants.{Empty}
 use Rattle.history_core.specs.History.{unspecified}
-use Rattle.history_core.specs.Legal.{MayFollow, LegalAfter, IsLegal, IsProperEntry}
+use Rattle.history_core.specs.Legal.{MayFollow}
 use Rattle.kumo_run.specs.Steps.{entry, path_to, accepted, promoted, opened, begun, ended, closed, stopped}
 
 same_number : (n : ℕ) → (n == n) ≡ true
@@ -19,15 +19,6 @@ same_number n = eq-eqb n n refl
 same_text : (xs : List ℕ) → bytes_eq xs xs ≡ true
 same_text [] = refl
 same_text (x ∷ xs) = rw (same_number x) (same_text xs)
-
-LegalAfter-push : (before later : List Entry) (e : Entry) → LegalAfter before later → MayFollow (before ++ later) e → LegalAfter before (later ++ e ∷ [])
-LegalAfter-push before [] e legal follows = let P : List Entry → Type 0 = λ h. MayFollow h e in (subst P (append-nil before) follows, tt)
-LegalAfter-push before (x ∷ later) e legal follows =
-    let P : List Entry → Type 0 = λ h. MayFollow h e in
-    (legal.0, LegalAfter-push (before ++ x ∷ []) later e legal.1 (subst P (sym (append_assoc before (x ∷ []) later)) follows))
-
-pub IsLegal-push : (h : List Entry) (e : Entry) → IsLegal h → MayFollow h e → IsLegal (h ++ e ∷ [])
-IsLegal-push h e legal follows = LegalAfter-push [] h e legal follows
 
 pub may_accept : (m : Message) → IsProperMessage m → MayFollow [] (entry (event.Accepted m))
 may_accept m p = record { running = refl; proper = record { moment = omega arith; event = p }; later = omega arith; row = refl }

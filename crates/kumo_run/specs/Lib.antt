@@ -4,5 +4,10 @@ pub mod RefusalLine
 pub mod Reading
 pub mod Steps
 pub mod Delivery
+pub mod Working
 pub mod Run
 pub mod Ends
+pub mod LogMembers
+pub mod LogGathered
+pub mod ScriptedPeer
+pub mod Work

@@ -1,5 +1,7 @@
 -- The number of each status.
-use Rattle.std.specs.Prelude.{ℕ}
+use Rattle.std.specs.Prelude.{ℕ, Result, Ok, Err}
+use Rattle.kumo_run.specs.declared.delivery_log.log.LogWriteFault.{LogWriteFault}
+use Rattle.kumo_run.specs.declared.delivery_log.log.LogWriteFault.TheVariants as log
 use Rattle.kumo_run.specs.declared.status.Status.{Status}
 use Rattle.kumo_run.specs.declared.status.Status.TheVariants.{Drained, Usage, Mail, ReadFault, WriteFault, Memory, NotYet}
 
@@ -11,3 +13,9 @@ code_of ReadFault = 5
 code_of WriteFault = 6
 code_of Memory = 11
 code_of NotYet = 12
+
+-- the status that the writing of the log leaves
+abbrev pub status_of_log : {T : Type 0} → Result T LogWriteFault → Status
+status_of_log (Ok x) = Drained
+status_of_log (Err log.WriteFault) = WriteFault
+status_of_log (Err log.Memory) = Memory

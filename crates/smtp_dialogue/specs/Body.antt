@@ -1,5 +1,5 @@
 -- A body on the wire: its lines with a `.` before each that begins with one, then the line `.` (RFC 5321 section 4.5.2).
-use Rattle.std.specs.Prelude.{ℕ, ◌==◌, List, [], ◌∷◌, ◌++◌, flat_map, codes, Bool, false, ◌&&◌, ◌||◌, if◌then◌else◌}
+use Rattle.std.specs.Prelude.{ℕ, ◌==◌, List, [], ◌∷◌, ◌++◌, flat_map, Bool, false, ◌&&◌, ◌||◌, if◌then◌else◌}
 
 abbrev pub begins_with_line_feed : List ℕ → Bool
 begins_with_line_feed [] = false

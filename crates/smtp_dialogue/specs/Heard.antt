@@ -1,6 +1,6 @@
 -- Replies of one line: three digits, the first from 2 to 5, then nothing or a blank and a text, then LF with one CR
 -- directly before it dropped (RFC 5321 section 4.2).
-use Rattle.std.specs.Prelude.{ℕ, ◌+◌, ◌-◌, ◌*◌, ◌<◌, ◌==◌, nat_lt, nat_le, List, [], ◌∷◌, ◌++◌, length, take, drop, map, position, Bool, ◌&&◌, Option, Some, None, if◌then◌else◌}
+use Rattle.std.specs.Prelude.{ℕ, ◌+◌, ◌-◌, ◌*◌, ◌==◌, nat_lt, nat_le, List, [], ◌∷◌, ◌++◌, length, take, drop, map, position, Bool, ◌&&◌, Option, Some, None, if◌then◌else◌}
 use Rattle.std.specs.Str.Lines.{strip_carriage_return}
 use Rattle.kumo_outside.specs.ReplyText.{digits_of, is_printable}
 use Rattle.kumo_outside.specs.declared.reply.TheConstants.{REPLY_TEXT_LIMIT}

@@ -4,4 +4,21 @@
 //! transcript of the bytes got. No call takes memory but `Scratch::new`.
 #![tactic(auto)]
 
+mod ask;
+mod body;
+mod delivery;
+mod greeting;
 mod heard;
+pub mod laws;
+mod listen;
+mod parting;
+mod reply_text;
+mod scratch;
+mod send;
+#[cfg(test)]
+mod tests;
+
+pub use delivery::{Tried, attempt};
+pub use greeting::{Greeted, greet};
+pub use parting::farewell;
+pub use scratch::Scratch;

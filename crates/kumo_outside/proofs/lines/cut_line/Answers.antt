@@ -1,6 +1,5 @@
 use Rattle.std.proofs.Common.{◌≡◌, ◌<◌, ◌+◌, sym, ap, ◌∙◌, arith, List, ℕ, drop, length, length-drop}
 use Rattle.std.proofs.lemmas.List.{drop-drop}
-use Rattle.std.specs.Str.Lines.{lines}
 use Rattle.kumo_outside.proofs.SplitLemmas.{lines_at, lines_without}
 use Rattle.kumo_outside.proofs.lines.cut_line.Goals as goal
 

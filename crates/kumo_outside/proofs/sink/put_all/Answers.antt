@@ -1,5 +1,4 @@
-use Rattle.std.proofs.Common.{◌∙◌, sym, ap, arith, take, take-add}
-use Rattle.kumo_outside.specs.Told.{extended}
+use Rattle.std.proofs.Common.{sym, arith, take-add}
 use Rattle.kumo_outside.proofs.ToldLemmas.{extended-nil, extended-next}
 use Rattle.kumo_outside.proofs.sink.put_all.Goals as goal
 

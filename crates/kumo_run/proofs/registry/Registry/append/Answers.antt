@@ -1,7 +1,7 @@
 use Rattle.std.proofs.Common.{◌≡◌, List, [], ◌∷◌, ◌++◌, Result, Ok, Err, OnOk, OnErr, subst, sym}
 use Rattle.history_core.specs.declared.entry.Entry.{Entry}
 use Rattle.history_core.specs.Legal.{IsLegal, MayFollow}
-use Rattle.kumo_run.proofs.StepLemmas.{IsLegal-push}
+use Rattle.history_core.proofs.LegalLemmas.{IsLegal-push}
 use Rattle.kumo_run.proofs.registry.Registry.append.Goals as goal
 
 -- pushed or not, the history is legal

@@ -1,0 +1,5 @@
+pub mod LegalLemmas
+pub mod OneMore
+pub mod Picked
+pub mod Settling
+pub mod Numbers

@@ -1,0 +1,124 @@
+-- What is known of the message that is promoted next, and of the one that is attempted next.
+use Rattle.std.proofs.Common.{◌≡◌, ◌⊎◌, inl, inr, ⊎_elim, ℕ, List, [], ◌∷◌, ◌++◌, Bool, true, false, not, cond, ◌&&◌, ◌||◌, Option, Some, None, length, filter, eqb, bytes_eq, arith, refl, ap, subst, ◌∙◌}
+use Rattle.std.specs.List.{list_any}
+use Rattle.std.proofs.lemmas.Bool.{and_parts, both_ways, eq-eqb, eqb-true, not-true, or_cases, or_left, or_right}
+use Rattle.std.proofs.lemmas.Option.{same_Some}
+use Rattle.kumo_outside.specs.declared.message.Message.{Message}
+use Rattle.history_core.specs.declared.entry.Entry.{Entry}
+use Rattle.history_core.specs.declared.entry.Event.{Event}
+use Rattle.history_core.specs.declared.entry.Event.TheVariants.{Accepted, Promoted, Opened, Begun, Ended, Closed, Stopped}
+use Rattle.history_core.specs.History.{messages, path_of}
+use Rattle.history_core.specs.Fate.{fate_of}
+use Rattle.history_core.specs.Connection.{Connection, connections, busy_with, is_this, is_in_flight, takes, is_promotion_of, is_ready, promoted_to, unless_taken, ready_among, ready}
+use Rattle.history_core.specs.Candidates.{has_pick, first_id, next_to_promote}
+use Rattle.history_core.specs.Openable.{Verdict, spent, shed, work, first_ready, verdict_at, verdict}
+
+Passes : (Message → Bool) → (Message → Bool) → ℕ → Type 0
+Passes p q id = (m : Message) × (p m ≡ true) × (q m ≡ true) × (m.id ≡ id)
+
+inner : (p q : Message → Bool) (m : Message) (rest : List Message) (id : ℕ) (b : Bool)
+    → p m ≡ b → q m ≡ true → (first_id rest ≡ Some id → Passes p q id) → first_id (cond b (m ∷ rest) rest) ≡ Some id → Passes p q id
+unfolding Passes
+inner p q m rest id true passes kept later is = (m, passes, kept, same_Some _ _ is)
+inner p q m rest id false passes kept later is = later is
+
+outer : (p q : Message → Bool) (m : Message) (ms : List Message) (id : ℕ) (b : Bool)
+    → q m ≡ b → (first_id (filter p (filter q ms)) ≡ Some id → Passes p q id) → first_id (filter p (cond b (m ∷ filter q ms) (filter q ms))) ≡ Some id → Passes p q id
+outer p q m ms id true kept later is = inner p q m (filter p (filter q ms)) id (p m) refl kept later is
+outer p q m ms id false kept later is = later is
+
+-- the first that passes two tests passes both
+first_of_two : (p q : Message → Bool) (ms : List Message) (id : ℕ) → first_id (filter p (filter q ms)) ≡ Some id → Passes p q id
+first_of_two p q [] id is = absurd cc
+first_of_two p q (m ∷ ms) id is = outer p q m ms id (q m) refl (first_of_two p q ms id) is
+
+none_of_length : (xs : List Entry) → eqb (length xs) 0 ≡ true → xs ≡ []
+none_of_length [] is = refl
+none_of_length (x ∷ xs) is = let none : length (x ∷ xs) ≡ 0 = eqb-true _ _ is in absurd (omega (arith, none))
+
+-- a message that may be promoted next has no fate and is not in flight
+pub next_to_promote-free : (h : List Entry) (id : ℕ) → next_to_promote h ≡ Some id → (fate_of h id ≡ []) × (is_in_flight h id ≡ false)
+unfolding Passes
+next_to_promote-free h id is =
+    let (m, passes, kept, same) = first_of_two (λ m. not (is_ready h m.id) && not (is_in_flight h m.id) && has_pick h m) (λ m. eqb (length (fate_of h m.id)) 0) (messages h) id is in
+    let rest = (and_parts (not (is_ready h m.id) && not (is_in_flight h m.id)) (has_pick h m) passes).0 in
+    let free = not-true (is_in_flight h m.id) (and_parts (not (is_ready h m.id)) (not (is_in_flight h m.id)) rest).1 in
+    (subst (λ i. fate_of h i ≡ []) same (none_of_length (fate_of h m.id) kept), subst (λ i. is_in_flight h i ≡ false) same free)
+
+is_this-same : (o : Option ℕ) (id : ℕ) → o ≡ Some id → is_this o id ≡ true
+is_this-same o id is = ap (λ o. is_this o id) is ∙ eq-eqb id id refl
+
+among : (h : List Entry) (cs : List Connection) (conn id : ℕ)
+    → list_any (λ c. eqb c.number conn) cs ≡ true → busy_with h conn ≡ Some id → list_any (λ c. is_this (busy_with h c.number) id) cs ≡ true
+among h [] conn id there busy = absurd cc
+among h (c ∷ cs) conn id there busy =
+    ⊎_elim
+    (λ here. or_left _ _ (is_this-same (busy_with h c.number) id (ap (busy_with h) (eqb-true _ _ here) ∙ busy)))
+    (λ later. or_right _ _ (among h cs conn id later busy))
+    (or_cases (eqb c.number conn) (list_any (λ c. eqb c.number conn) cs) there)
+
+-- what no connection is busy with is attempted on none that was opened
+pub is_in_flight-none : (h : List Entry) (conn id : ℕ)
+    → is_in_flight h id ≡ false → list_any (λ c. eqb c.number conn) (connections h) ≡ true → busy_with h conn ≡ Some id → ⊥
+is_in_flight-none h conn id free there busy = both_ways (is_in_flight h id) free (among h (connections h) conn id there busy)
+
+first_ready-work : (ids : List ℕ) (id : ℕ) → first_ready ids ≡ work id → (more : List ℕ) × (ids ≡ id ∷ more)
+first_ready-work [] id is = absurd cc
+first_ready-work (i ∷ ids) id is = let same : i ≡ id = cc in (ids, ap (λ x. x ∷ ids) same)
+
+past_limits : (a b : Bool) (v : Verdict) (id : ℕ) → cond a spent (cond b shed v) ≡ work id → v ≡ work id
+past_limits true b v id is = absurd cc
+past_limits false true v id is = absurd cc
+past_limits false false v id is = is
+
+of_connection : (h : List Entry) (o : Option Connection) (id : ℕ) → verdict_at h o ≡ Some (work id) → (path : List ℕ) × (more : List ℕ) × (ready h path ≡ id ∷ more)
+of_connection h None id is = absurd cc
+of_connection h (Some c) id is =
+    let (more, first) = first_ready-work (ready h c.path) id (past_limits _ _ _ id (same_Some _ _ is)) in
+    (c.path, more, first)
+
+if_promoted : (b : Bool) (i id : ℕ) → cond b (Some i) None ≡ Some id → i ≡ id
+if_promoted true i id is = same_Some _ _ is
+if_promoted false i id is = absurd cc
+
+promoted_to-promotion : (ms : List Message) (path : List ℕ) (e : Event) (id : ℕ) → promoted_to ms path e ≡ Some id → is_promotion_of id e ≡ true
+promoted_to-promotion ms path (Accepted m) id is = absurd cc
+promoted_to-promotion ms path (Promoted i source) id is = eq-eqb i id (if_promoted (bytes_eq (path_of ms i source) path) i id is)
+promoted_to-promotion ms path (Opened conn p key) id is = absurd cc
+promoted_to-promotion ms path (Begun conn i key) id is = absurd cc
+promoted_to-promotion ms path (Ended conn i outcome next) id is = absurd cc
+promoted_to-promotion ms path (Closed conn cause) id is = absurd cc
+promoted_to-promotion ms path Stopped id is = absurd cc
+
+IsHere : Option ℕ → List Entry → ℕ → Type 0
+IsHere o later id = (o ≡ Some id) × (list_any (λ e. takes id e.what) later ≡ false)
+
+by_taken : (i : ℕ) (later : List Entry) (rest : List ℕ) (id : ℕ) (more : List ℕ) (b : Bool)
+    → list_any (λ e. takes i e.what) later ≡ b → cond b [] (i ∷ []) ++ rest ≡ id ∷ more → IsHere (Some i) later id ⊎ (rest ≡ id ∷ more)
+unfolding IsHere
+by_taken i later rest id more true taken is = inr is
+by_taken i later rest id more false taken is =
+    let same : i ≡ id = cc in
+    inl (ap Some same, subst (λ j. list_any (λ e. takes j e.what) later ≡ false) same taken)
+
+first_here : (o : Option ℕ) (later : List Entry) (rest : List ℕ) (id : ℕ) (more : List ℕ) → unless_taken o later ++ rest ≡ id ∷ more → IsHere o later id ⊎ (rest ≡ id ∷ more)
+first_here None later rest id more is = inr is
+first_here (Some i) later rest id more is = by_taken i later rest id more (list_any (λ e. takes i e.what) later) refl is
+
+both : (a b rest : Bool) → a ≡ true → b ≡ false → ((a && not b) || rest) ≡ true
+both a b rest e f = ap (λ a. (a && not b) || rest) e ∙ ap (λ b. (true && not b) || rest) f
+
+ready_among-is_ready : (ms : List Message) (path : List ℕ) (h : List Entry) (id : ℕ) (more : List ℕ) → ready_among ms path h ≡ id ∷ more → is_ready h id ≡ true
+unfolding IsHere
+ready_among-is_ready ms path [] id more is = absurd cc
+ready_among-is_ready ms path (e ∷ later) id more is =
+    ⊎_elim
+    (λ here. both _ _ _ (promoted_to-promotion ms path e.what id here.0) here.1)
+    (λ there. or_right _ _ (ready_among-is_ready ms path later id more there))
+    (first_here (promoted_to ms path e.what) later (ready_among ms path later) id more is)
+
+-- the message that a connection is to attempt is ready
+pub verdict-ready : (h : List Entry) (conn id : ℕ) → verdict h conn ≡ Some (work id) → is_ready h id ≡ true
+verdict-ready h conn id is =
+    let (path, more, first) = of_connection h _ id is in
+    ready_among-is_ready (messages h) path h id more first

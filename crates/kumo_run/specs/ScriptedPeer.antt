@@ -1,0 +1,19 @@
+-- What a scripted linker and its links are seen as.
+use Rattle.std.specs.Prelude.{◌≡◌, ℕ, Bool, List, length, take}
+use Rattle.kumo_outside.specs.Sessions.{Opening}
+use Rattle.kumo_outside.specs.declared.session.Session.{Session}
+
+pub record LinkerState : Type 0 where
+  pub sessions : List Session
+  pub faults : ℕ
+
+pub record LinkState : Type 0 where
+  pub opening : Opening
+  pub sent : List ℕ
+  pub got : List ℕ
+  pub ended : Bool
+  pub faults : ℕ
+
+-- the second text begins with the first
+abbrev pub Begins : List ℕ → List ℕ → Type 0
+Begins front text = take (length front) text ≡ front

@@ -1,0 +1,63 @@
+-- What the work before the log comes to.
+use Rattle.std.specs.Prelude.{◌≡◌, ℕ, List, [], ◌∷◌, Option, None, IsSome, IfSome, flat_map, ⊤}
+use Rattle.kumo_outside.specs.Causes.{Rose}
+use Rattle.kumo_outside.specs.declared.message.Message.{Message}
+use Rattle.kumo_outside.specs.declared.session.Session.{Session}
+use Rattle.history_core.specs.declared.entry.Entry.{Entry}
+use Rattle.mail_input.specs.Inputs.{Mail, messages, refused, not_yet, mail_of}
+use Rattle.mail_input.specs.declared.MailFault.{MailFault}
+use Rattle.mail_input.specs.declared.MailFault.TheVariants as fault
+use Rattle.mail_input.specs.declared.MailWhy.TheVariants.{Refused}
+use Rattle.kumo_run.specs.declared.refusal.Refusal.{Refusal}
+use Rattle.kumo_run.specs.declared.refusal.Refusal.TheVariants as refusal
+use Rattle.kumo_run.specs.ScriptedPeer.{LinkerState}
+use Rattle.kumo_run.specs.Words.{mail_name}
+use Rattle.kumo_run.specs.Delivery.{IsSessionOf, IsNotDelivered}
+use Rattle.kumo_run.specs.Ends.{Gives, FallsShort}
+
+-- the sessions that linkers tell, one linker after the other
+abbrev pub all_sessions : List LinkerState → List Session
+all_sessions linkers = flat_map (λ k. k.sessions) linkers
+
+-- the cause of each refusal
+abbrev pub HasReason : Refusal → List (List ℕ) → (List ℕ → Option (List ℕ)) → ℕ → ℕ → List Session → Type 0
+HasReason refusal.Usage words told before after sessions = mail_name words ≡ None
+HasReason (refusal.Mail line) words told before after sessions = Gives words told (λ found. found ≡ refused line Refused)
+HasReason refusal.ReadFault words told before after sessions = Rose before after × IsSome (mail_name words)
+HasReason refusal.Memory words told before after sessions = IsSome (mail_name words)
+HasReason refusal.NotYetMail words told before after sessions = Gives words told (λ found. found ≡ not_yet)
+HasReason refusal.NotYetReply words told before after sessions = FallsShort words told sessions
+
+-- the refusal that a fault of the mail text comes to
+abbrev pub refusal_of : MailFault → Refusal
+refusal_of (fault.At line why) = refusal.Mail line
+refusal_of fault.NotYet = refusal.NotYetMail
+refusal_of fault.Memory = refusal.Memory
+
+-- what a mail text gives is refused so
+abbrev pub IsMisread : Refusal → Mail → Type 0
+IsMisread refusal.Usage mail = ⊥
+IsMisread (refusal.Mail line) mail = mail ≡ refused line Refused
+IsMisread refusal.ReadFault mail = ⊥
+IsMisread refusal.Memory mail = ⊤
+IsMisread refusal.NotYetMail mail = mail ≡ not_yet
+IsMisread refusal.NotYetReply mail = ⊥
+
+-- the same of a text that is told, or a read of it failed
+abbrev pub IsUnread : Refusal → Option (List ℕ) → ℕ → ℕ → Type 0
+IsUnread refusal.Usage told before after = ⊥
+IsUnread (refusal.Mail line) told before after = IfSome told (λ text. mail_of text ≡ refused line Refused)
+IsUnread refusal.ReadFault told before after = Rose before after
+IsUnread refusal.Memory told before after = ⊤
+IsUnread refusal.NotYetMail told before after = IfSome told (λ text. mail_of text ≡ not_yet)
+IsUnread refusal.NotYetReply told before after = ⊥
+
+-- where the messages were read: no memory, or the one message was not delivered in the one session
+abbrev pub StopsShort : Refusal → List Message → List Session → Type 0
+StopsShort refusal.Usage mail sessions = ⊥
+StopsShort (refusal.Mail line) mail sessions = ⊥
+StopsShort refusal.ReadFault mail sessions = ⊥
+StopsShort refusal.Memory mail sessions = ⊤
+StopsShort refusal.NotYetMail mail sessions = ⊥
+StopsShort refusal.NotYetReply mail sessions =
+    (m : Message) × (s : Session) × (mail ≡ m ∷ []) × (sessions ≡ s ∷ []) × IsSessionOf m s × IsNotDelivered m s

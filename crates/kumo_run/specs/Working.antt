@@ -1,0 +1,69 @@
+-- What the worker does with one message over one link.
+use Rattle.std.specs.Prelude.{◌≡◌, ℕ, List, [], ◌∷◌, ◌++◌, Bool, Option, Some, None, Result, Ok, Err, ⊤}
+use Rattle.kumo_outside.specs.Sessions.{Opening}
+use Rattle.kumo_outside.specs.declared.message.Message.{Message}
+use Rattle.kumo_outside.specs.declared.session.Session.{Session}
+use Rattle.kumo_outside.specs.declared.reply.Reply.{Reply}
+use Rattle.kumo_outside.specs.declared.reply.Outcome.{Outcome}
+use Rattle.kumo_outside.specs.declared.reply.Outcome.TheVariants.{Delivered}
+use Rattle.history_core.specs.declared.entry.Entry.{Entry}
+use Rattle.smtp_dialogue.specs.Transcript.{IsTranscript}
+use Rattle.kumo_run.specs.declared.dispatcher.WorkFault.{WorkFault}
+use Rattle.kumo_run.specs.declared.dispatcher.WorkFault.TheVariants.{NotOpened, NotDelivered, Memory}
+use Rattle.kumo_run.specs.Steps.{closed}
+use Rattle.kumo_run.specs.Delivery.{localhost, IsDeliveredBy, IsNotDelivered, IsSessionOf}
+
+-- a link that was just opened
+pub record IsFreshLink (sent got : Option (List ℕ)) (faults : ℕ) : Type 0 where
+  pub sent_is : sent ≡ Some []
+  pub got_is : got ≡ Some []
+  pub faults_are : faults ≡ 0
+
+-- the session that a link tells
+abbrev pub session_of : Opening → List ℕ → List ℕ → Bool → ℕ → Session
+session_of o sent got ended faults =
+    record { host = o.host; source = o.source; sent = sent; got = got; ended = ended; faults = faults; uses = o.uses }
+
+-- what a link that tells its bytes tells after the work on it
+pub record Tells (m : Message) (o : Opening) (sent got : Option (List ℕ)) (ended : Bool) (faults : ℕ) (P : Session → Type 0) : Type 0 where
+  pub sent_bytes : List ℕ
+  pub got_bytes : List ℕ
+  pub sent_is : sent ≡ Some sent_bytes
+  pub got_is : got ≡ Some got_bytes
+  pub transcript : IsTranscript localhost (m ∷ []) (session_of o sent_bytes got_bytes ended faults)
+  pub decided : P (session_of o sent_bytes got_bytes ended faults)
+
+-- by the answer: the message was delivered in the session that the link tells, as the history then says, or was not
+abbrev pub Converses : {T : Type 0} → Message → Opening → Option (List ℕ) → Option (List ℕ) → Bool → ℕ → Result T WorkFault → List Entry → Type 0
+Converses m o sent got ended faults (Ok x) h =
+    Tells m o sent got ended faults (λ s. (reply : Reply) × (h ≡ closed m reply) × IsDeliveredBy m reply s)
+Converses m o sent got ended faults (Err NotOpened) h = ⊤
+Converses m o sent got ended faults (Err NotDelivered) h = Tells m o sent got ended faults (IsNotDelivered m)
+Converses m o sent got ended faults (Err Memory) h = ⊤
+
+-- by the answer: the outcome was the delivery that the history says, or another; and QUIT was spoken
+abbrev pub Parts : {T : Type 0} → Message → Outcome → Result T WorkFault → List Entry → Type 0 → Type 0
+Parts m outcome (Ok x) h spoken = (reply : Reply) × (outcome ≡ Delivered reply) × (h ≡ closed m reply) × spoken
+Parts m outcome (Err NotOpened) h spoken = ⊥
+Parts m outcome (Err NotDelivered) h spoken = ((reply : Reply) → outcome ≡ Delivered reply → ⊥) × spoken
+Parts m outcome (Err Memory) h spoken = ⊤
+
+-- the linker tells one session more, that of the message
+pub record TellsOneMore (m : Message) (new : Option (List Session)) (before : List Session) (P : Session → Type 0) : Type 0 where
+  pub session : Session
+  pub added : new ≡ Some (before ++ session ∷ [])
+  pub session_is : IsSessionOf m session
+  pub decided : P session
+
+-- by the answer of the work over a new link
+abbrev pub Connects : {T : Type 0} → Message → Result T WorkFault → List Entry → Option (List Session) → List Session → Type 0
+Connects m (Ok x) h new before =
+    TellsOneMore m new before (λ s. (reply : Reply) × (h ≡ closed m reply) × IsDeliveredBy m reply s)
+Connects m (Err NotOpened) h new before = ⊤
+Connects m (Err NotDelivered) h new before = TellsOneMore m new before (IsNotDelivered m)
+Connects m (Err Memory) h new before = ⊤
+
+-- by the answer of the whole work on a message, which is the history
+abbrev pub Delivers : Message → Result (List Entry) WorkFault → Option (List Session) → List Session → Type 0
+Delivers m (Ok h) new before = Connects {T = List Entry} m (Ok h) h new before
+Delivers m (Err fault) new before = Connects {T = List Entry} m (Err fault) [] new before

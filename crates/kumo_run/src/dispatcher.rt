@@ -1,0 +1,171 @@
+//! The worker: it takes one message from its acceptance to its fate over one connection.
+//!
+//! Before each step on the link it takes a turn at the registry, which says what may be done. In the final layout it is
+//! a crate of its own.
+ghost use Rattle.std.specs.Prelude.{◌≡◌, [], ◌++◌, false, codes, IfOk, IfSome};
+ghost use Rattle.kumo_outside.specs.Causes.{Rose};
+ghost use Rattle.kumo_outside.specs.Message.{IsProperMessage};
+ghost use Rattle.kumo_outside.specs.ReplyText.{IsProperOutcome};
+ghost use Rattle.smtp_dialogue.specs.Transcript.{parting};
+ghost use Rattle.smtp_dialogue.specs.Speaks.{Speaks, side};
+ghost use Rattle.kumo_run.specs.Steps.{promoted, opened, begun};
+ghost use Rattle.kumo_run.specs.Working.{IsFreshLink, Converses, Parts, Connects, Delivers};
+
+use crate::registry::Registry;
+use kumo_outside::{Link, Linker, Memory, Message, Outcome, Room, Text};
+use smtp_dialogue::{Greeted, Scratch, attempt, farewell, greet};
+use std::alloc::Global;
+
+/// The one source that is there without a sources file.
+const SOURCE: &str = "unspecified";
+
+/// What such a source says in EHLO.
+const EHLO: &str = "localhost";
+
+/// The number of the first connection, and so far the only one.
+const CONNECTION: u64 = 1;
+
+/// Why a message was not delivered.
+#[derive(Clone, Copy, Debug, PartialEq, Eq)]
+pub enum WorkFault {
+    /// No link was opened.
+    NotOpened,
+    /// The receiver did not take the message.
+    NotDelivered,
+    /// There was no memory.
+    Memory,
+}
+
+impl From<Memory> for WorkFault {
+    ghost use Rattle.kumo_run.specs.declared.dispatcher.WorkFault.{WorkFault};
+
+    ghost from_gives = { λ _ fault. fault ≡ WorkFault.Memory };
+
+    fn from(_memory: Memory) -> WorkFault {
+        WorkFault::Memory
+    }
+}
+
+/// Delivers one message over one connection, and closes it. The history is that of the message up to the closing.
+/// After `NotDelivered` the linker tells the session that says so.
+pub fn deliver<K: Linker>(
+    alloc: Global,
+    message: &Message,
+    linker: &mut K,
+) -> Result<Registry, WorkFault>
+    requires { IsProperMessage message.now }
+    ensures told { IfSome (K.sessions linker.old) (λ before. Delivers message.now result (K.sessions linker.new) before) }
+    ensures fault { result ≡ Err WorkFault.NotOpened → Rose (K.faults linker.old) (K.faults linker.new) }
+{
+    let mut registry = ready(alloc, message)?;
+    let path = path_text(alloc, message.name.domain.as_str())?;
+    let mut scratch = Scratch::new(alloc)?;
+    let room = Room::new(alloc)?;
+    registry.open(CONNECTION, path)?;
+    connect(&mut registry, linker, message, &mut scratch, room)?;
+    Ok(registry)
+}
+
+/// Opens a link to the message's domain, works on it, and gives it back.
+fn connect<K: Linker>(
+    registry: &mut Registry,
+    linker: &mut K,
+    message: &Message,
+    scratch: &mut Scratch,
+    room: Room,
+) -> Result<(), WorkFault>
+    requires history { registry.old ≡ opened message.now }
+    requires room { room ≡ [] }
+    ensures told { IfSome (K.sessions linker.old) (λ before. Connects message.now result registry.new (K.sessions linker.new) before) }
+    ensures fault { result ≡ Err WorkFault.NotOpened → Rose (K.faults linker.old) (K.faults linker.new) }
+{
+    let mut link = match linker.open(message.name.domain.as_str(), SOURCE) {
+        Ok(link) => link,
+        Err(_) => return Err(WorkFault::NotOpened),
+    };
+    let worked = converse(registry, &mut link, message, scratch, room);
+    linker.done(link);
+    worked
+}
+
+/// A registry that took the message over and made it ready.
+fn ready(alloc: Global, message: &Message) -> Result<Registry, Memory>
+    requires { IsProperMessage message.now }
+    ensures { IfOk result (λ registry. registry ≡ promoted message.now) }
+{
+    let source = Text::of(alloc, SOURCE)?;
+    let mut registry = Registry::new(alloc);
+    registry.accept(message.copy(alloc)?)?;
+    registry.promote(message.id, source)?;
+    Ok(registry)
+}
+
+/// The text of the path to a domain: the source, `->` and the site.
+fn path_text(alloc: Global, domain: &str) -> Result<Text, Memory>
+    ensures { IfOk result (λ path. path ≡ codes "unspecified->" ++ domain.now) }
+{
+    let mut path = Text::of(alloc, SOURCE)?;
+    path.push_str("->")?;
+    path.push_str(domain)?;
+    Ok(path)
+}
+
+/// Greets, attempts the message and parts. Before the attempt and after it it takes a turn at the registry.
+fn converse<L: Link>(
+    registry: &mut Registry,
+    link: &mut L,
+    message: &Message,
+    scratch: &mut Scratch,
+    room: Room,
+) -> Result<(), WorkFault>
+    requires history { registry.old ≡ opened message.now }
+    requires room { room ≡ [] }
+    ensures opening { L.opening link.new ≡ L.opening link.old }
+    ensures told { IsFreshLink (L.sent link.old) (L.got link.old) (L.faults link.old) → Converses message.now (L.opening link.new) (L.sent link.new) (L.got link.new) (L.ended link.new) (L.faults link.new) result registry.new }
+    ensures fault { result ≡ Err WorkFault.NotOpened → ⊥ }
+{
+    match greet(link, EHLO, scratch) {
+        Greeted::Refused => return Err(WorkFault::NotDelivered),
+        Greeted::Ready => (),
+    }
+    registry.begin(CONNECTION, message.id)?;
+    let tried = attempt(
+        link,
+        message.sender.as_str(),
+        message.recipient.as_str(),
+        message.body.as_str(),
+        scratch,
+        room,
+    );
+    if !tried.alive {
+        return Err(WorkFault::NotDelivered);
+    }
+    part(registry, link, message, scratch, tried.outcome)
+}
+
+/// Ends the attempt in the history, says QUIT over the link, and closes the connection, for which nothing is left.
+fn part<L: Link>(
+    registry: &mut Registry,
+    link: &mut L,
+    message: &Message,
+    scratch: &mut Scratch,
+    outcome: Outcome,
+) -> Result<(), WorkFault>
+    requires history { registry.old ≡ begun message.now }
+    requires outcome { IsProperOutcome outcome }
+    ensures opening { L.opening link.new ≡ L.opening link.old }
+    ensures spoken { Parts message.now outcome result registry.new (Speaks parting (side (L.sent link.old) (L.got link.old) (L.ended link.old) (L.faults link.old) scratch.old) (side (L.sent link.new) (L.got link.new) (L.ended link.new) (L.faults link.new) scratch.new) [] [] false) }
+{
+    match outcome {
+        Outcome::Delivered(reply) => {
+            registry.end_delivered(CONNECTION, message.id, reply)?;
+            farewell(link, scratch);
+            registry.close_empty(CONNECTION)?;
+            Ok(())
+        }
+        Outcome::Transient(_) | Outcome::Permanent(_) | Outcome::Lost(_) => {
+            farewell(link, scratch);
+            Err(WorkFault::NotDelivered)
+        }
+    }
+}

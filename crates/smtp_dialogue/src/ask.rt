@@ -1,0 +1,73 @@
+//! Sends a command or a body, and reads the reply to it.
+ghost use Rattle.std.specs.Prelude.{◌≡◌, ◌++◌, ℕ, List, [], IfOk};
+ghost use Rattle.kumo_outside.specs.ReplyText.{IsReplyText};
+ghost use Rattle.smtp_dialogue.specs.Body.{wire};
+ghost use Rattle.smtp_dialogue.specs.Speaks.{side};
+ghost use Rattle.smtp_dialogue.specs.Steps.{Asks};
+
+use crate::body::send_body;
+use crate::listen::{take_code, take_reply};
+use crate::scratch::Scratch;
+use crate::send::send_three;
+use kumo_outside::{Link, Lost, Room};
+
+/// Sends a command, and reads the reply to it and its text.
+pub(crate) fn ask<L: Link>(
+    link: &mut L,
+    verb: &str,
+    argument: &str,
+    end: &str,
+    scratch: &mut Scratch,
+    room: &mut Room,
+) -> Result<u16, Lost>
+    requires { room.old ≡ [] }
+    ensures opening { L.opening link.new ≡ L.opening link.old }
+    ensures asks { Asks (verb.now ++ argument.now ++ end.now)
+        (side (L.sent link.old) (L.got link.old) (L.ended link.old) (L.faults link.old) scratch.old)
+        (side (L.sent link.new) (L.got link.new) (L.ended link.new) (L.faults link.new) scratch.new) room.new result }
+    ensures text { IfOk result (λ code. IsReplyText code room.new) }
+{
+    match send_three(link, verb.as_bytes(), argument.as_bytes(), end.as_bytes()) {
+        Ok(()) => take_reply(link, scratch, room),
+        Err(_) => Err(Lost::LinkFault),
+    }
+}
+
+/// Sends a command, and reads the code of the reply to it.
+pub(crate) fn ask_code<L: Link>(
+    link: &mut L,
+    verb: &str,
+    argument: &str,
+    end: &str,
+    scratch: &mut Scratch,
+) -> Result<u16, Lost>
+    ensures opening { L.opening link.new ≡ L.opening link.old }
+    ensures asks { (text : List ℕ) × Asks (verb.now ++ argument.now ++ end.now)
+        (side (L.sent link.old) (L.got link.old) (L.ended link.old) (L.faults link.old) scratch.old)
+        (side (L.sent link.new) (L.got link.new) (L.ended link.new) (L.faults link.new) scratch.new) text result }
+{
+    match send_three(link, verb.as_bytes(), argument.as_bytes(), end.as_bytes()) {
+        Ok(()) => take_code(link, scratch),
+        Err(_) => Err(Lost::LinkFault),
+    }
+}
+
+/// Sends a body, and reads the reply to it and its text.
+pub(crate) fn ask_body<L: Link>(
+    link: &mut L,
+    body: &str,
+    scratch: &mut Scratch,
+    room: &mut Room,
+) -> Result<u16, Lost>
+    requires { room.old ≡ [] }
+    ensures opening { L.opening link.new ≡ L.opening link.old }
+    ensures asks { Asks (wire body.now)
+        (side (L.sent link.old) (L.got link.old) (L.ended link.old) (L.faults link.old) scratch.old)
+        (side (L.sent link.new) (L.got link.new) (L.ended link.new) (L.faults link.new) scratch.new) room.new result }
+    ensures text { IfOk result (λ code. IsReplyText code room.new) }
+{
+    match send_body(link, body) {
+        Ok(()) => take_reply(link, scratch, room),
+        Err(_) => Err(Lost::LinkFault),
+    }
+}

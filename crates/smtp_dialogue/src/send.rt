@@ -1,0 +1,37 @@
+//! Sends whole pieces over a link.
+ghost use Rattle.std.specs.Prelude.{◌≡◌, ◌++◌, ℕ, List, length, MatchResult};
+ghost use Rattle.smtp_dialogue.specs.Steps.{Sends, FailsToSend};
+
+use kumo_outside::{Failed, Link};
+
+/// Sends all bytes. After `Failed` a front of them was sent, and not all.
+pub(crate) fn send_all<L: Link>(link: &mut L, bytes: &[u8]) -> Result<(), Failed>
+    ensures opening { L.opening link.new ≡ L.opening link.old }
+    ensures sends { MatchResult result
+        (λ _. Sends bytes.now (L.sent link.old) (L.sent link.new) (L.got link.old) (L.got link.new) (L.faults link.old) (L.faults link.new))
+        (λ _. FailsToSend bytes.now (L.sent link.old) (L.sent link.new) (L.got link.old) (L.got link.new) (L.ended link.new) (L.faults link.old) (L.faults link.new)) }
+{
+    let mut at = 0;
+    while at < bytes.len() {
+        let (_, rest) = bytes.split_at(at);
+        at += link.send(rest)?;
+    }
+    Ok(())
+}
+
+/// Sends three pieces, as the verb of a command, its argument and the end of its line.
+pub(crate) fn send_three<L: Link>(
+    link: &mut L,
+    first: &[u8],
+    second: &[u8],
+    third: &[u8],
+) -> Result<(), Failed>
+    ensures opening { L.opening link.new ≡ L.opening link.old }
+    ensures sends { MatchResult result
+        (λ _. Sends (first.now ++ second.now ++ third.now) (L.sent link.old) (L.sent link.new) (L.got link.old) (L.got link.new) (L.faults link.old) (L.faults link.new))
+        (λ _. FailsToSend (first.now ++ second.now ++ third.now) (L.sent link.old) (L.sent link.new) (L.got link.old) (L.got link.new) (L.ended link.new) (L.faults link.old) (L.faults link.new)) }
+{
+    send_all(link, first)?;
+    send_all(link, second)?;
+    send_all(link, third)
+}
