@@ -1,13 +1,13 @@
 -- What a mail text gives.
-use Rattle.std.proofs.Common.{◌≡◌, ℕ, ◌≤◌, ◌<◌, ◌⊎◌, nat_lt, List, [], ◌∷◌, length, Bool, true, false, cond, Option, Some, None, refl, sym, ap, ◌∙◌, arith, inl, inr}
+use Rattle.std.proofs.Common.{◌≡◌, ℕ, ◌≤◌, ◌<◌, nat_lt, List, [], ◌∷◌, length, Bool, true, false, cond, Option, Some, None, refl, sym, ap, ◌∙◌, arith, inl, inr}
 use Rattle.std.proofs.lemmas.Bool.Decides.{nat_tests}
 use Rattle.serde_json.specs.Data.{Data}
 use Rattle.kumo_outside.specs.declared.message.Message.{Message}
 use Rattle.kumo_outside.specs.Lines.{numbered_lines}
 use Rattle.mail_input.specs.declared.TheConstants.{MAIL_LIMIT}
 use Rattle.mail_input.specs.Fields.{object_in, message_of, names_a_queue}
-use Rattle.mail_input.specs.Inputs.{Mail, messages, refused, not_yet, message_or_refused, object_given, mail_of_lines, mail_of}
-use Rattle.kumo_run.specs.Reading.{IsReadUpTo, HasMore}
+use Rattle.mail_input.specs.Inputs.{messages, not_yet, message_or_refused, object_given, mail_of_lines, mail_of}
+use Rattle.kumo_run.specs.Reading.{IsReadUpTo}
 
 -- at most one message
 few_or_refused : (n : ℕ) (o : Option Message) (ms : List Message) → message_or_refused n o ≡ messages ms → length ms ≤ 1

@@ -1,5 +1,5 @@
 -- How a call of the program ends, by its status.
-use Rattle.std.specs.Prelude.{◌≡◌, ℕ, ◌≤◌, ◌⊎◌, List, [], ◌∷◌, Option, Some, None, option_and_then, IfSome, IsSome}
+use Rattle.std.specs.Prelude.{◌≡◌, ℕ, ◌⊎◌, List, [], ◌∷◌, Option, Some, None, option_and_then, IfSome, IsSome}
 use Rattle.kumo_outside.specs.Causes.{Rose}
 use Rattle.kumo_outside.specs.Told.{extended, TakesFront}
 use Rattle.kumo_outside.specs.declared.message.Message.{Message}

@@ -3,8 +3,7 @@ use Rattle.std.specs.Prelude.{◌≡◌, ℕ, List, [], ◌∷◌, Option, None,
 use Rattle.kumo_outside.specs.Causes.{Rose}
 use Rattle.kumo_outside.specs.declared.message.Message.{Message}
 use Rattle.kumo_outside.specs.declared.session.Session.{Session}
-use Rattle.history_core.specs.declared.entry.Entry.{Entry}
-use Rattle.mail_input.specs.Inputs.{Mail, messages, refused, not_yet, mail_of}
+use Rattle.mail_input.specs.Inputs.{Mail, refused, not_yet, mail_of}
 use Rattle.mail_input.specs.declared.MailFault.{MailFault}
 use Rattle.mail_input.specs.declared.MailFault.TheVariants as fault
 use Rattle.mail_input.specs.declared.MailWhy.TheVariants.{Refused}

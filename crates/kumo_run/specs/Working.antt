@@ -1,5 +1,5 @@
 -- What the worker does with one message over one link.
-use Rattle.std.specs.Prelude.{◌≡◌, ℕ, List, [], ◌∷◌, ◌++◌, Bool, Option, Some, None, Result, Ok, Err, ⊤}
+use Rattle.std.specs.Prelude.{◌≡◌, ℕ, List, [], ◌∷◌, ◌++◌, Bool, Option, Some, Result, Ok, Err, ⊤}
 use Rattle.kumo_outside.specs.Sessions.{Opening}
 use Rattle.kumo_outside.specs.declared.message.Message.{Message}
 use Rattle.kumo_outside.specs.declared.session.Session.{Session}

@@ -6,7 +6,7 @@ ghost use Rattle.kumo_run.specs.Work.{all_sessions};
 ghost use Rattle.kumo_run.specs.declared.status.Status.{Status};
 
 use crate::delivery_log::{LogWriteFault, write_log};
-use crate::scripted_peer::ScriptedLinker;
+use crate::scripted_peer::{PeerReplies, ScriptedLinker};
 use crate::status::Status;
 use crate::work::work;
 use history_core::History;
@@ -50,7 +50,7 @@ pub fn perform<T: Texts, O: Sink, D, C, S>(
         result.history (all_sessions result.peers.items) }
 {
     let mut peers = Vec::new(alloc);
-    match work(alloc, words, texts, &mut peers) {
+    match work(alloc, words, texts, PeerReplies::new(), &mut peers) {
         Ok(history) => {
             let status = log_status(write_log(alloc, &history, out));
             Finished {

@@ -17,11 +17,13 @@ use kumo_outside::{Memory, Message, Text, Texts};
 use mail_input::{MAIL_LIMIT, MailFault, read_mail};
 use std::alloc::Global;
 
-/// Reads what the words name and sends its message. The linker that was used is added to `peers`.
+/// Reads what the words name and sends its message to peers that reply so. The linker that was used is added to
+/// `peers`.
 pub fn work<T: Texts>(
     alloc: Global,
     words: &[Text],
     texts: &mut T,
+    says: PeerReplies,
     peers: &mut Vec<ScriptedLinker>,
 ) -> Result<History, Refusal>
     requires { peers.old.items ≡ [] }
@@ -32,7 +34,7 @@ pub fn work<T: Texts>(
         return Err(Refusal::Usage);
     };
     match read_messages(alloc, texts, name) {
-        Ok(messages) => send(alloc, messages.as_slice(), PeerReplies::new(), peers),
+        Ok(messages) => send(alloc, messages.as_slice(), says, peers),
         Err(refusal) => Err(refusal),
     }
 }

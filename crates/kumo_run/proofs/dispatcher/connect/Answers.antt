@@ -1,4 +1,4 @@
-use Rattle.std.proofs.Common.{◌≡◌, ℕ, suc, List, [], ◌∷◌, ◌++◌, length, set, Option, Some, None, Result, Ok, Err, IfSome, Bool, refl, sym, ap, ◌∙◌, subst}
+use Rattle.std.proofs.Common.{◌≡◌, ℕ, List, [], ◌∷◌, ◌++◌, length, set, Option, Some, None, Result, Ok, Err, IfSome, Bool, refl, ap, ◌∙◌, subst}
 use Rattle.kumo_outside.specs.Sessions.{Opening, Opens, GivesBack, fresh}
 use Rattle.kumo_outside.specs.declared.message.Message.{Message}
 use Rattle.kumo_outside.specs.declared.session.Session.{Session}

@@ -1,4 +1,4 @@
-use Rattle.std.proofs.Common.{Option, ◌≡◌, ℕ, List, [], ◌∷◌, Result, Ok, Err, Bool, true, false, not, refl, sym, subst}
+use Rattle.std.proofs.Common.{Option, ◌≡◌, ℕ, List, [], ◌∷◌, Result, Ok, Err, Bool, true, false, not, refl}
 use Rattle.kumo_outside.specs.Sessions.{Opening}
 use Rattle.kumo_outside.specs.declared.message.Message.{Message}
 use Rattle.kumo_outside.specs.declared.reply.Outcome.{Outcome}

@@ -1,4 +1,4 @@
-use Rattle.std.proofs.Common.{◌≡◌, ◌∙◌, ap, ℕ, List, ◌++◌, codes}
+use Rattle.std.proofs.Common.{◌∙◌, ap, ℕ, List, ◌++◌, codes}
 use Rattle.kumo_outside.specs.Told.{extended}
 use Rattle.kumo_run.proofs.refusal.put_mail_line.Goals as goal
 
