@@ -5,7 +5,7 @@ use Rattle.std.proofs.lemmas.Bool.{cases_lt, eqb-true, or_parts}
 use Rattle.std.proofs.lemmas.List.{get_or_append_left, get_or_push}
 use Rattle.std.proofs.lemmas.List.Concat.{flat_map-append}
 use Rattle.std.proofs.lemmas.List.Elements.{filter-append}
-use Rattle.kumo_outside.specs.declared.message.Message.{Message}
+use Rattle.queue_name.specs.declared.message.Message.{Message}
 use Rattle.history_core.specs.declared.entry.Entry.{Entry}
 use Rattle.history_core.specs.declared.entry.Event.{Event}
 use Rattle.history_core.specs.declared.entry.Event.TheVariants.{Accepted, Promoted, Opened, Begun, Ended, Closed, Stopped}

@@ -3,7 +3,7 @@ use Rattle.std.proofs.Common.{◌≡◌, ◌⊎◌, inl, inr, ⊎_elim, ℕ, Lis
 use Rattle.std.specs.List.{list_any}
 use Rattle.std.proofs.lemmas.Bool.{and_parts, both_ways, eq-eqb, eqb-true, not-true, or_cases, or_left, or_right}
 use Rattle.std.proofs.lemmas.Option.{same_Some}
-use Rattle.kumo_outside.specs.declared.message.Message.{Message}
+use Rattle.queue_name.specs.declared.message.Message.{Message}
 use Rattle.history_core.specs.declared.entry.Entry.{Entry}
 use Rattle.history_core.specs.declared.entry.Event.{Event}
 use Rattle.history_core.specs.declared.entry.Event.TheVariants.{Accepted, Promoted, Opened, Begun, Ended, Closed, Stopped}

@@ -1,6 +1,6 @@
 -- Which message may be promoted next. Every message is due at once, and the one source is `unspecified`.
 use Rattle.std.specs.Prelude.{ℕ, nat_lt, List, [], ◌∷◌, Bool, not, ◌&&◌, Option, Some, None, length, filter}
-use Rattle.kumo_outside.specs.declared.message.Message.{Message}
+use Rattle.queue_name.specs.declared.message.Message.{Message}
 use Rattle.history_core.specs.declared.entry.Entry.{Entry}
 use Rattle.history_core.specs.declared.entry.TheConstants.{READY_LIMIT}
 use Rattle.history_core.specs.History.{messages, unspecified, path_of}

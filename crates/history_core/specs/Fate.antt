@@ -1,6 +1,6 @@
 -- The fate of a message: the entries that settle it.
 use Rattle.std.specs.Prelude.{ℕ, ◌==◌, List, Bool, true, false, ◌&&◌, length, filter}
-use Rattle.kumo_outside.specs.declared.message.Message.{Message}
+use Rattle.queue_name.specs.declared.message.Message.{Message}
 use Rattle.history_core.specs.declared.entry.Entry.{Entry}
 use Rattle.history_core.specs.declared.entry.Event.{Event}
 use Rattle.history_core.specs.declared.entry.Event.TheVariants.{Accepted, Promoted, Opened, Begun, Ended, Closed, Stopped}

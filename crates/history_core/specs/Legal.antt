@@ -1,11 +1,11 @@
 -- Which entry may follow which history, and which history is legal.
 use Rattle.std.specs.Prelude.{◌≡◌, ℕ, ◌+◌, ◌≤◌, List, [], ◌∷◌, ◌++◌, false, Some, None, length, ⊤}
 use Rattle.std.specs.List.{list_any}
-use Rattle.kumo_outside.specs.Message.{IsProperMessage}
+use Rattle.queue_name.specs.Message.{IsProperMessage}
 use Rattle.kumo_outside.specs.ReplyText.{IsProperOutcome}
 use Rattle.kumo_outside.specs.declared.reply.Outcome.{Outcome}
 use Rattle.kumo_outside.specs.declared.reply.Outcome.TheVariants as outcome
-use Rattle.kumo_outside.specs.declared.message.TheConstants.{LAST_MOMENT}
+use Rattle.kumo_base.specs.declared.moment.TheConstants.{LAST_MOMENT}
 use Rattle.history_core.specs.declared.entry.Entry.{Entry}
 use Rattle.history_core.specs.declared.entry.Event.{Event}
 use Rattle.history_core.specs.declared.entry.Event.TheVariants.{Accepted, Promoted, Opened, Begun, Ended, Closed, Stopped}

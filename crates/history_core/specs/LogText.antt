@@ -4,8 +4,8 @@ use Rattle.std.specs.Int.{w128, to_be_bytes}
 use Rattle.serde_json.specs.Data.{Data, number, unsigned, string, object, Members, member, no_members}
 use Rattle.serde_json.specs.Written.{compact_text}
 use Rattle.uuid.specs.Text.{hyphenated_text, lower}
-use Rattle.kumo_outside.specs.QueueName.{spelling}
-use Rattle.kumo_outside.specs.declared.message.Message.{Message}
+use Rattle.queue_name.specs.QueueName.{spelling}
+use Rattle.queue_name.specs.declared.message.Message.{Message}
 use Rattle.kumo_outside.specs.declared.reply.Lost.{Lost}
 use Rattle.kumo_outside.specs.declared.reply.Lost.TheVariants as lost
 use Rattle.kumo_outside.specs.declared.reply.Outcome.{Outcome}

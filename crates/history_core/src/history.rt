@@ -3,7 +3,7 @@ ghost use Rattle.std.specs.Prelude.{◌≡◌, List, [], ◌∷◌, ◌++◌, On
 ghost use Rattle.history_core.specs.declared.entry.Entry.{Entry};
 
 use crate::entry::Entry;
-use kumo_outside::Memory;
+use kumo_base::Memory;
 use std::alloc::Global;
 use std::marker::Model;
 

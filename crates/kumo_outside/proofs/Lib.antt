@@ -1,3 +1,1 @@
 pub mod ToldLemmas
-mod SplitLemmas
-pub mod AddressLemmas

@@ -1,10 +1,4 @@
-pub mod Causes
 pub mod Told
-pub mod Moment
-pub mod QueueName
-pub mod Address
-pub mod Message
 pub mod ReplyText
-pub mod Lines
 pub mod Sessions
 pub mod Devices

@@ -4,7 +4,7 @@ use Rattle.std.specs.List.{list_all}
 use Rattle.kumo_outside.specs.declared.reply.Reply.{Reply}
 use Rattle.kumo_outside.specs.declared.reply.Outcome.{Outcome}
 use Rattle.kumo_outside.specs.declared.reply.Outcome.TheVariants as outcome
-use Rattle.kumo_outside.specs.declared.reply.TheConstants.{REPLY_TEXT_LIMIT}
+use Rattle.kumo_base.specs.declared.room.TheConstants.{REPLY_TEXT_LIMIT}
 
 -- the three digits of a code
 abbrev pub digits_of : ℕ → List ℕ

@@ -1,8 +1,8 @@
 //! Texts that are files: a trusted edge, since no contract can say what a file gives.
 ghost use Rattle.std.specs.Prelude.{None};
 
-use crate::faults::Failed;
 use crate::texts::Texts;
+use kumo_base::Failed;
 use std::fs;
 use std::io::{Read, Seek, SeekFrom};
 use std::rt::Files;

@@ -1,10 +1,10 @@
 //! One connection to a receiver.
 ghost use Rattle.std.specs.Prelude.{◌≡◌, ◌==◌, ℕ, ◌<◌, ◌≤◌, Bool, false, List, Option, length, take, IfOk, MatchResult};
-ghost use Rattle.kumo_outside.specs.Causes.{HasCause};
+ghost use Rattle.kumo_base.specs.Causes.{HasCause};
 ghost use Rattle.kumo_outside.specs.Told.{extended};
 ghost use Rattle.kumo_outside.specs.Sessions.{Opening};
 
-use crate::faults::Failed;
+use kumo_base::Failed;
 
 /// A connection, over which bytes go both ways.
 pub trait Link {

@@ -1,11 +1,11 @@
 //! What opens connections.
 ghost use Rattle.std.specs.Prelude.{◌≡◌, ℕ, List, Option, IfOk, OnErr};
-ghost use Rattle.kumo_outside.specs.Causes.{HasCause};
+ghost use Rattle.kumo_base.specs.Causes.{HasCause};
 ghost use Rattle.kumo_outside.specs.Sessions.{Opens, GivesBack, IsOpenAt};
 ghost use Rattle.kumo_outside.specs.declared.session.Session.{Session};
 
-use crate::faults::Failed;
 use crate::link::Link;
+use kumo_base::Failed;
 
 /// Opens links to hosts, and may tell what went over each.
 pub trait Linker {

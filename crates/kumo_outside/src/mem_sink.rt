@@ -1,11 +1,11 @@
 //! A sink in memory.
 ghost use Rattle.std.specs.Prelude.{◌≡◌, ◌<◌, ◌≤◌, ℕ, List, [], Option, Some, length, take, IfOk, IsErr, IsTrue, MatchResult};
-ghost use Rattle.kumo_outside.specs.Causes.{HasCause};
+ghost use Rattle.kumo_base.specs.Causes.{HasCause};
 ghost use Rattle.kumo_outside.specs.Told.{extended};
 ghost use Rattle.kumo_outside.specs.Devices.{ByteSink, is_failing, one_more};
 
-use crate::faults::Failed;
 use crate::sink::Sink;
+use kumo_base::Failed;
 use std::alloc::Global;
 use std::marker::Model;
 

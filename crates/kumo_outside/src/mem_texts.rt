@@ -1,13 +1,11 @@
 //! Texts in memory.
 ghost use Rattle.std.specs.Prelude.{◌≡◌, ◌<◌, ◌≤◌, ◌&&◌, not, ℕ, List, Option, length, option_map, IfOk, IfSome, is_ok, is_some};
-ghost use Rattle.kumo_outside.specs.Causes.{HasCause};
+ghost use Rattle.kumo_base.specs.Causes.{HasCause};
 ghost use Rattle.kumo_outside.specs.Told.{Places};
 ghost use Rattle.kumo_outside.specs.Devices.{TextShelf, text_at, is_failing, one_more};
 
-use crate::bytes::Bytes;
-use crate::faults::Failed;
-use crate::text::Text;
 use crate::texts::Texts;
+use kumo_base::{Bytes, Failed, Text};
 use std::marker::Model;
 
 /// Named texts in memory, of which chosen reads fail.

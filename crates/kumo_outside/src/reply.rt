@@ -1,8 +1,5 @@
 //! A reply of a receiver, and what becomes of one attempt.
-use crate::text::Text;
-
-/// The most bytes that are kept of a reply's text.
-pub const REPLY_TEXT_LIMIT: usize = 512;
+use kumo_base::Text;
 
 /// A whole reply (RFC 5321 section 4.2).
 #[derive(Drop)]

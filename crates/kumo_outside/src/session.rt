@@ -1,6 +1,5 @@
 //! What went over one link, as a linker tells it.
-use crate::bytes::Bytes;
-use crate::text::Text;
+use kumo_base::{Bytes, Text};
 
 /// One link's bytes both ways.
 #[derive(Drop)]

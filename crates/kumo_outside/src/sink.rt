@@ -1,9 +1,9 @@
 //! Where the log is written to.
 ghost use Rattle.std.specs.Prelude.{◌≡◌, ℕ, ◌<◌, ◌≤◌, List, Option, length, take, IfOk, OnOk, OnErr, MatchResult};
-ghost use Rattle.kumo_outside.specs.Causes.{HasCause};
+ghost use Rattle.kumo_base.specs.Causes.{HasCause};
 ghost use Rattle.kumo_outside.specs.Told.{extended, TakesProperFront};
 
-use crate::faults::Failed;
+use kumo_base::Failed;
 
 /// Something that takes bytes in order, as a file or standard output.
 pub trait Sink {

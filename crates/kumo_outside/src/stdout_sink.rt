@@ -1,8 +1,8 @@
 //! The sink that is standard output: a trusted edge, since no contract can say what a terminal or a file takes.
 ghost use Rattle.std.specs.Prelude.{None};
 
-use crate::faults::Failed;
 use crate::sink::Sink;
+use kumo_base::Failed;
 use std::io;
 use std::io::{Print, Write};
 

@@ -1,9 +1,9 @@
 //! Where texts are read from.
 ghost use Rattle.std.specs.Prelude.{◌≡◌, ℕ, ◌<◌, ◌≤◌, List, Option, length, IfOk, IfSome};
-ghost use Rattle.kumo_outside.specs.Causes.{HasCause};
+ghost use Rattle.kumo_base.specs.Causes.{HasCause};
 ghost use Rattle.kumo_outside.specs.Told.{Places};
 
-use crate::faults::Failed;
+use kumo_base::Failed;
 
 /// Named texts, read in pieces, as files are.
 pub trait Texts {

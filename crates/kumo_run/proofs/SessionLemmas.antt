@@ -1,21 +1,21 @@
 -- What a fresh link tells of the transcript, from what the calls of the dialogue say.
-use Rattle.std.proofs.Common.{◌≡◌, ℕ, ◌⊎◌, List, [], ◌∷◌, ◌++◌, length, Bool, true, false, Option, Some, refl, ap, sym, subst, inl, inr, ◌∙◌, arith, append-nil, length-append}
+use Rattle.std.proofs.Common.{◌≡◌, ℕ, ◌+◌, ◌≤◌, ◌<◌, ◌⊎◌, List, [], ◌∷◌, ◌++◌, length, Bool, true, false, Option, Some, None, refl, ap, sym, subst, inl, inr, ◌∙◌, arith, append-nil, append_assoc, length-append}
 use Rattle.std.proofs.lemmas.Bool.{false≢true}
 use Rattle.std.proofs.lemmas.Option.{same_Some}
-use Rattle.kumo_outside.specs.Causes.{Rose}
-use Rattle.kumo_outside.specs.Told.{extended, TakesFront}
+use Rattle.kumo_base.specs.Causes.{Rose}
+use Rattle.kumo_outside.specs.Told.{extended, ExtendsByFront, TakesFront, TakesProperFront}
 use Rattle.kumo_outside.specs.Sessions.{Opening}
-use Rattle.kumo_outside.specs.declared.message.Message.{Message}
+use Rattle.queue_name.specs.declared.message.Message.{Message}
 use Rattle.kumo_outside.specs.declared.session.Session.{Session}
 use Rattle.kumo_outside.specs.declared.reply.Reply.{Reply}
 use Rattle.kumo_outside.specs.declared.reply.Outcome.{Outcome}
 use Rattle.kumo_outside.specs.declared.reply.Outcome.TheVariants.{Delivered}
 use Rattle.kumo_outside.proofs.ToldLemmas.{extended-told, TakesFront-whole, TakesFront-more, TakesProperFront-more}
-use Rattle.smtp_dialogue.specs.Transcript.{Spoken, Standing, alive, over, waiting, is_alive, joined_at, followed_by, greeting, attempted, parting, attempts, before_parting, transcript, IsFront}
+use Rattle.smtp_dialogue.specs.Transcript.{Spoken, Standing, alive, over, waiting, is_alive, ends, joined_at, followed_by, greeting, attempted, parting, attempts, before_parting, transcript, IsFront, IsTranscript}
 use Rattle.smtp_dialogue.specs.Speaks.{Side, side, IsWhole, IsCutShort, Speaks, with_more, IsStable}
 use Rattle.smtp_dialogue.proofs.Stability.{parts_stable, greeting_stable, attempts_stable}
 use Rattle.smtp_dialogue.proofs.Following.{followed}
-use Rattle.kumo_run.specs.Delivery.{localhost, IsDeliveredBy, IsNotDelivered}
+use Rattle.kumo_run.specs.Delivery.{localhost, up_to_quit, IsDeliveredBy, IsNotDelivered}
 use Rattle.kumo_run.specs.Working.{IsFreshLink, session_of, Tells}
 
 -- ---- a part that left the link not alive is all that the parts behind it come to

@@ -1,6 +1,6 @@
 -- What a session tells of one message.
 use Rattle.std.specs.Prelude.{◌≡◌, ℕ, List, [], ◌∷◌, codes}
-use Rattle.kumo_outside.specs.declared.message.Message.{Message}
+use Rattle.queue_name.specs.declared.message.Message.{Message}
 use Rattle.kumo_outside.specs.declared.session.Session.{Session}
 use Rattle.kumo_outside.specs.declared.reply.Reply.{Reply}
 use Rattle.kumo_outside.specs.declared.reply.Outcome.TheVariants.{Delivered}

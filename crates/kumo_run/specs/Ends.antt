@@ -1,19 +1,20 @@
 -- How a call of the program ends, by its status.
-use Rattle.std.specs.Prelude.{◌≡◌, ℕ, ◌⊎◌, List, [], ◌∷◌, Option, Some, None, option_and_then, IfSome, IsSome}
-use Rattle.kumo_outside.specs.Causes.{Rose}
+use Rattle.std.specs.Prelude.{◌≡◌, ℕ, ◌≤◌, ◌⊎◌, List, [], ◌∷◌, Option, Some, None, option_and_then, IfSome, IsSome}
+use Rattle.kumo_base.specs.Causes.{Rose}
 use Rattle.kumo_outside.specs.Told.{extended, TakesFront}
-use Rattle.kumo_outside.specs.declared.message.Message.{Message}
+use Rattle.queue_name.specs.declared.message.Message.{Message}
 use Rattle.kumo_outside.specs.declared.session.Session.{Session}
 use Rattle.history_core.specs.declared.entry.Entry.{Entry}
 use Rattle.history_core.specs.LogText.{log_text}
-use Rattle.mail_input.specs.Inputs.{Mail, messages, refused, not_yet, mail_of}
-use Rattle.mail_input.specs.declared.MailWhy.TheVariants.{Refused}
+use Rattle.mail_input.specs.Inputs.{messages, refused}
+use Rattle.mail_input.specs.declared.MailWhy.{MailWhy}
 use Rattle.kumo_run.specs.declared.refusal.Refusal.{Refusal}
 use Rattle.kumo_run.specs.declared.refusal.Refusal.TheVariants as refusal
 use Rattle.kumo_run.specs.declared.status.Status.{Status}
 use Rattle.kumo_run.specs.declared.status.Status.TheVariants as status
 use Rattle.kumo_run.specs.RefusalLine.{refusal_line}
 use Rattle.kumo_run.specs.Words.{mail_name}
+use Rattle.kumo_run.specs.Given.{Given, too_long, mail_gives, given_by, IsMany}
 use Rattle.kumo_run.specs.Delivery.{IsSessionOf, IsNotDelivered}
 use Rattle.kumo_run.specs.Run.{IsRun}
 
@@ -38,21 +39,21 @@ pub record Refuses (out : SinkChange) (why : Refusal) : Type 0 where
   pub whole : (Rose out.faults_before out.faults_after → ⊥) → Wrote out (refusal_line why)
 
 -- the words name a mail text, and where it is told, this is said of what it gives
-pub record Gives (words : List (List ℕ)) (told : List ℕ → Option (List ℕ)) (P : Mail → Type 0) : Type 0 where
+pub record Gives (words : List (List ℕ)) (told : List ℕ → Option (List ℕ)) (P : Given → Type 0) : Type 0 where
   pub named : IsSome (mail_name words)
-  pub mail : IfSome (option_and_then told (mail_name words)) (λ text. P (mail_of text))
+  pub given : IfSome (option_and_then told (mail_name words)) (λ text. P (given_by text))
 
 -- the work was done: the history is the run of the mail
 pub record Works (words : List (List ℕ)) (told : List ℕ → Option (List ℕ)) (h : List Entry) (sessions : List Session) : Type 0 where
   pub mail : List Message
-  pub given : Gives words told (λ found. found ≡ messages mail)
+  pub given : Gives words told (λ found. found ≡ mail_gives (messages mail))
   pub run : IsRun mail h sessions
 
 -- the mail is one message, and its one session did not deliver it
 pub record FallsShort (words : List (List ℕ)) (told : List ℕ → Option (List ℕ)) (sessions : List Session) : Type 0 where
   pub message : Message
   pub session : Session
-  pub given : Gives words told (λ found. found ≡ messages (message ∷ []))
+  pub given : Gives words told (λ found. found ≡ mail_gives (messages (message ∷ [])))
   pub sessions_are : sessions ≡ session ∷ []
   pub session_is : IsSessionOf message session
   pub undelivered : IsNotDelivered message session
@@ -65,17 +66,20 @@ Ends status.Drained words told before after out history sessions =
 Ends status.Usage words told before after out history sessions =
     (mail_name words ≡ None) × (history ≡ None) × Refuses out refusal.Usage
 Ends status.Mail words told before after out history sessions =
-    (line : ℕ) × Gives words told (λ found. found ≡ refused line Refused) × (history ≡ None) × Refuses out (refusal.Mail line)
+    (line : ℕ) × (why : MailWhy) × Gives words told (λ found. found ≡ mail_gives (refused line why)) × (history ≡ None)
+    × Refuses out (refusal.Mail line why)
 Ends status.ReadFault words told before after out history sessions =
     Rose before after × IsSome (mail_name words) × (history ≡ None) × Refuses out refusal.ReadFault
 Ends status.WriteFault words told before after out history sessions =
     (h : List Entry) × (history ≡ Some h) × Rose out.faults_before out.faults_after × WroteFront out (log_text h)
     × Works words told h sessions
+Ends status.Limit words told before after out history sessions =
+    Gives words told (λ found. found ≡ too_long) × (history ≡ None) × Refuses out refusal.Limit
 Ends status.Memory words told before after out history sessions =
     IsSome (mail_name words)
     × (((history ≡ None) × Refuses out refusal.Memory)
     ⊎ ((h : List Entry) × (history ≡ Some h) × WroteFront out (log_text h) × Works words told h sessions))
 Ends status.NotYet words told before after out history sessions =
     (history ≡ None)
-    × ((Gives words told (λ found. found ≡ not_yet) × Refuses out refusal.NotYetMail)
+    × ((Gives words told IsMany × Refuses out refusal.NotYetMail)
     ⊎ (FallsShort words told sessions × Refuses out refusal.NotYetReply))

@@ -1,22 +1,38 @@
 -- The line that is printed of a refusal.
 use Rattle.std.specs.Prelude.{ℕ, List, ◌++◌, codes, decimal}
+use Rattle.mail_input.specs.declared.MailWhy.{MailWhy}
+use Rattle.mail_input.specs.declared.MailWhy.TheVariants as why
 use Rattle.kumo_run.specs.declared.refusal.Refusal.{Refusal}
 use Rattle.kumo_run.specs.declared.refusal.Refusal.TheVariants as refusal
 use Rattle.kumo_run.specs.declared.status.Status.{Status}
 use Rattle.kumo_run.specs.declared.status.Status.TheVariants as status
 
+-- what stands behind the number of a refused line: its word
+abbrev pub end_of_line : MailWhy → List ℕ
+end_of_line why.TooMany = codes ": TooMany\n"
+end_of_line why.NotJson = codes ": NotJson\n"
+end_of_line why.Missing = codes ": Missing\n"
+end_of_line why.BadId = codes ": BadId\n"
+end_of_line why.BadMoment = codes ": BadMoment\n"
+end_of_line why.BadAddress = codes ": BadAddress\n"
+end_of_line why.BadName = codes ": BadName\n"
+end_of_line why.TooLong = codes ": TooLong\n"
+end_of_line why.Duplicate = codes ": Duplicate\n"
+
 abbrev pub refusal_line : Refusal → List ℕ
 refusal_line refusal.Usage = codes "error: usage\n"
-refusal_line (refusal.Mail line) = codes "error: mail line " ++ (decimal line ++ codes ": Refused\n")
+refusal_line (refusal.Mail line why) = codes "error: mail line " ++ (decimal line ++ end_of_line why)
 refusal_line refusal.ReadFault = codes "error: read fault\n"
+refusal_line refusal.Limit = codes "error: limit text\n"
 refusal_line refusal.Memory = codes "error: memory\n"
 refusal_line refusal.NotYetMail = codes "error: not yet mail\n"
 refusal_line refusal.NotYetReply = codes "error: not yet reply\n"
 
 abbrev pub status_of : Refusal → Status
 status_of refusal.Usage = status.Usage
-status_of (refusal.Mail line) = status.Mail
+status_of (refusal.Mail line why) = status.Mail
 status_of refusal.ReadFault = status.ReadFault
+status_of refusal.Limit = status.Limit
 status_of refusal.Memory = status.Memory
 status_of refusal.NotYetMail = status.NotYet
 status_of refusal.NotYetReply = status.NotYet

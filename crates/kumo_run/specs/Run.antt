@@ -1,6 +1,6 @@
 -- A run that went to its end.
-use Rattle.std.specs.Prelude.{◌≡◌, List, [], ◌∷◌, Bool, true, All, length, flat_map, fold, false}
-use Rattle.kumo_outside.specs.declared.message.Message.{Message}
+use Rattle.std.specs.Prelude.{◌≡◌, ℕ, List, [], ◌∷◌, ◌++◌, Bool, true, All, length, flat_map, fold, false}
+use Rattle.queue_name.specs.declared.message.Message.{Message}
 use Rattle.kumo_outside.specs.declared.session.Session.{Session}
 use Rattle.kumo_outside.specs.declared.reply.Reply.{Reply}
 use Rattle.kumo_outside.specs.declared.reply.Outcome.{Outcome}

@@ -3,7 +3,7 @@ use Rattle.std.specs.Prelude.{ℕ, Result, Ok, Err}
 use Rattle.kumo_run.specs.declared.delivery_log.log.LogWriteFault.{LogWriteFault}
 use Rattle.kumo_run.specs.declared.delivery_log.log.LogWriteFault.TheVariants as log
 use Rattle.kumo_run.specs.declared.status.Status.{Status}
-use Rattle.kumo_run.specs.declared.status.Status.TheVariants.{Drained, Usage, Mail, ReadFault, WriteFault, Memory, NotYet}
+use Rattle.kumo_run.specs.declared.status.Status.TheVariants.{Drained, Usage, Mail, ReadFault, WriteFault, Limit, Memory, NotYet}
 
 abbrev pub code_of : Status → ℕ
 code_of Drained = 0
@@ -11,6 +11,7 @@ code_of Usage = 2
 code_of Mail = 4
 code_of ReadFault = 5
 code_of WriteFault = 6
+code_of Limit = 10
 code_of Memory = 11
 code_of NotYet = 12
 

@@ -1,6 +1,6 @@
 -- The run of one message that is delivered, entry by entry. Every moment is 0, and the one pass has the number 0.
 use Rattle.std.specs.Prelude.{ℕ, List, [], ◌∷◌, ◌++◌, codes}
-use Rattle.kumo_outside.specs.declared.message.Message.{Message}
+use Rattle.queue_name.specs.declared.message.Message.{Message}
 use Rattle.kumo_outside.specs.declared.reply.Reply.{Reply}
 use Rattle.kumo_outside.specs.declared.reply.Outcome.TheVariants.{Delivered}
 use Rattle.history_core.specs.declared.entry.Entry.{Entry}

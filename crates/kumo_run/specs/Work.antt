@@ -1,12 +1,12 @@
 -- What the work before the log comes to.
-use Rattle.std.specs.Prelude.{◌≡◌, ℕ, List, [], ◌∷◌, Option, None, IsSome, IfSome, flat_map, ⊤}
-use Rattle.kumo_outside.specs.Causes.{Rose}
-use Rattle.kumo_outside.specs.declared.message.Message.{Message}
+use Rattle.std.specs.Prelude.{◌≡◌, ℕ, List, [], ◌∷◌, Option, None, IsSome, IfSome, flat_map, ⊤, ◌<◌, length}
+use Rattle.kumo_base.specs.Causes.{Rose}
+use Rattle.queue_name.specs.declared.message.Message.{Message}
 use Rattle.kumo_outside.specs.declared.session.Session.{Session}
-use Rattle.mail_input.specs.Inputs.{Mail, refused, not_yet, mail_of}
+use Rattle.mail_input.specs.Inputs.{refused}
 use Rattle.mail_input.specs.declared.MailFault.{MailFault}
 use Rattle.mail_input.specs.declared.MailFault.TheVariants as fault
-use Rattle.mail_input.specs.declared.MailWhy.TheVariants.{Refused}
+use Rattle.kumo_run.specs.Given.{Given, too_long, mail_gives, given_by, IsMany}
 use Rattle.kumo_run.specs.declared.refusal.Refusal.{Refusal}
 use Rattle.kumo_run.specs.declared.refusal.Refusal.TheVariants as refusal
 use Rattle.kumo_run.specs.ScriptedPeer.{LinkerState}
@@ -21,42 +21,45 @@ all_sessions linkers = flat_map (λ k. k.sessions) linkers
 -- the cause of each refusal
 abbrev pub HasReason : Refusal → List (List ℕ) → (List ℕ → Option (List ℕ)) → ℕ → ℕ → List Session → Type 0
 HasReason refusal.Usage words told before after sessions = mail_name words ≡ None
-HasReason (refusal.Mail line) words told before after sessions = Gives words told (λ found. found ≡ refused line Refused)
+HasReason (refusal.Mail line why) words told before after sessions = Gives words told (λ found. found ≡ mail_gives (refused line why))
 HasReason refusal.ReadFault words told before after sessions = Rose before after × IsSome (mail_name words)
+HasReason refusal.Limit words told before after sessions = Gives words told (λ found. found ≡ too_long)
 HasReason refusal.Memory words told before after sessions = IsSome (mail_name words)
-HasReason refusal.NotYetMail words told before after sessions = Gives words told (λ found. found ≡ not_yet)
+HasReason refusal.NotYetMail words told before after sessions = Gives words told IsMany
 HasReason refusal.NotYetReply words told before after sessions = FallsShort words told sessions
 
 -- the refusal that a fault of the mail text comes to
 abbrev pub refusal_of : MailFault → Refusal
-refusal_of (fault.At line why) = refusal.Mail line
-refusal_of fault.NotYet = refusal.NotYetMail
+refusal_of (fault.At line why) = refusal.Mail line why
 refusal_of fault.Memory = refusal.Memory
 
--- what a mail text gives is refused so
-abbrev pub IsMisread : Refusal → Mail → Type 0
-IsMisread refusal.Usage mail = ⊥
-IsMisread (refusal.Mail line) mail = mail ≡ refused line Refused
-IsMisread refusal.ReadFault mail = ⊥
-IsMisread refusal.Memory mail = ⊤
-IsMisread refusal.NotYetMail mail = mail ≡ not_yet
-IsMisread refusal.NotYetReply mail = ⊥
+-- what a mail text comes to is refused so
+abbrev pub IsMisread : Refusal → Given → Type 0
+IsMisread refusal.Usage found = ⊥
+IsMisread (refusal.Mail line why) found = found ≡ mail_gives (refused line why)
+IsMisread refusal.ReadFault found = ⊥
+IsMisread refusal.Limit found = found ≡ too_long
+IsMisread refusal.Memory found = ⊤
+IsMisread refusal.NotYetMail found = ⊥
+IsMisread refusal.NotYetReply found = ⊥
 
 -- the same of a text that is told, or a read of it failed
 abbrev pub IsUnread : Refusal → Option (List ℕ) → ℕ → ℕ → Type 0
 IsUnread refusal.Usage told before after = ⊥
-IsUnread (refusal.Mail line) told before after = IfSome told (λ text. mail_of text ≡ refused line Refused)
+IsUnread (refusal.Mail line why) told before after = IfSome told (λ text. given_by text ≡ mail_gives (refused line why))
 IsUnread refusal.ReadFault told before after = Rose before after
+IsUnread refusal.Limit told before after = IfSome told (λ text. given_by text ≡ too_long)
 IsUnread refusal.Memory told before after = ⊤
-IsUnread refusal.NotYetMail told before after = IfSome told (λ text. mail_of text ≡ not_yet)
+IsUnread refusal.NotYetMail told before after = ⊥
 IsUnread refusal.NotYetReply told before after = ⊥
 
--- where the messages were read: no memory, or the one message was not delivered in the one session
+-- where the messages were read: no memory, or more than one message, or the one was not delivered in the one session
 abbrev pub StopsShort : Refusal → List Message → List Session → Type 0
 StopsShort refusal.Usage mail sessions = ⊥
-StopsShort (refusal.Mail line) mail sessions = ⊥
+StopsShort (refusal.Mail line why) mail sessions = ⊥
 StopsShort refusal.ReadFault mail sessions = ⊥
+StopsShort refusal.Limit mail sessions = ⊥
 StopsShort refusal.Memory mail sessions = ⊤
-StopsShort refusal.NotYetMail mail sessions = ⊥
+StopsShort refusal.NotYetMail mail sessions = 1 < length mail
 StopsShort refusal.NotYetReply mail sessions =
     (m : Message) × (s : Session) × (mail ≡ m ∷ []) × (sessions ≡ s ∷ []) × IsSessionOf m s × IsNotDelivered m s

@@ -3,8 +3,8 @@
 //! Before each step on the link it takes a turn at the registry, which says what may be done. In the final layout it is
 //! a crate of its own.
 ghost use Rattle.std.specs.Prelude.{◌≡◌, [], ◌++◌, false, codes, IfOk, IfSome};
-ghost use Rattle.kumo_outside.specs.Causes.{Rose};
-ghost use Rattle.kumo_outside.specs.Message.{IsProperMessage};
+ghost use Rattle.kumo_base.specs.Causes.{Rose};
+ghost use Rattle.queue_name.specs.Message.{IsProperMessage};
 ghost use Rattle.kumo_outside.specs.ReplyText.{IsProperOutcome};
 ghost use Rattle.smtp_dialogue.specs.Transcript.{parting};
 ghost use Rattle.smtp_dialogue.specs.Speaks.{Speaks, side};
@@ -12,7 +12,9 @@ ghost use Rattle.kumo_run.specs.Steps.{promoted, opened, begun};
 ghost use Rattle.kumo_run.specs.Working.{IsFreshLink, Converses, Parts, Connects, Delivers};
 
 use crate::registry::Registry;
-use kumo_outside::{Link, Linker, Memory, Message, Outcome, Room, Text};
+use kumo_base::{Memory, Room, Text};
+use kumo_outside::{Link, Linker, Outcome};
+use queue_name::Message;
 use smtp_dialogue::{Greeted, Scratch, attempt, farewell, greet};
 use std::alloc::Global;
 

@@ -1,25 +1,29 @@
 //! Why no work was done, and the one line that is printed of it.
 ghost use Rattle.std.specs.Prelude.{◌≡◌, ◌≤◌, ◌++◌, OnOk, OnErr, codes, decimal};
-ghost use Rattle.kumo_outside.specs.Causes.{Rose, HasCause};
+ghost use Rattle.kumo_base.specs.Causes.{Rose, HasCause};
 ghost use Rattle.kumo_outside.specs.Told.{extended, TakesFront};
-ghost use Rattle.kumo_run.specs.RefusalLine.{refusal_line, status_of};
+ghost use Rattle.kumo_run.specs.RefusalLine.{refusal_line, status_of, end_of_line};
 
 use crate::status::Status;
 use itoa::Buffer;
-use kumo_outside::{Failed, Sink, put_all};
+use kumo_base::Failed;
+use kumo_outside::{Sink, put_all};
+use mail_input::MailWhy;
 
 /// Why no work was done.
 #[derive(Clone, Copy, Debug, PartialEq, Eq)]
 pub enum Refusal {
     /// The words are no command.
     Usage,
-    /// This line of the mail is the first refused one.
-    Mail { line: u64 },
+    /// This line of the mail is the first refused one, for this reason.
+    Mail { line: u64, why: MailWhy },
     /// A text could not be read.
     ReadFault,
+    /// The text has more bytes than are read.
+    Limit,
     /// There was no memory.
     Memory,
-    /// The mail holds more than is sent so far.
+    /// The mail holds more messages than are sent so far.
     NotYetMail,
     /// The receiver did not take the message, which is not followed up so far.
     NotYetReply,
@@ -34,6 +38,7 @@ impl Refusal {
             Refusal::Usage => Status::Usage,
             Refusal::Mail { .. } => Status::Mail,
             Refusal::ReadFault => Status::ReadFault,
+            Refusal::Limit => Status::Limit,
             Refusal::Memory => Status::Memory,
             Refusal::NotYetMail | Refusal::NotYetReply => Status::NotYet,
         }
@@ -60,8 +65,9 @@ fn put_line<O: Sink>(refusal: Refusal, out: &mut O) -> Result<(), Failed>
 {
     match refusal {
         Refusal::Usage => put_text(out, "error: usage\n"),
-        Refusal::Mail { line } => put_mail_line(line, out),
+        Refusal::Mail { line, why } => put_mail_line(line, why, out),
         Refusal::ReadFault => put_text(out, "error: read fault\n"),
+        Refusal::Limit => put_text(out, "error: limit text\n"),
         Refusal::Memory => put_text(out, "error: memory\n"),
         Refusal::NotYetMail => put_text(out, "error: not yet mail\n"),
         Refusal::NotYetReply => put_text(out, "error: not yet reply\n"),
@@ -69,14 +75,36 @@ fn put_line<O: Sink>(refusal: Refusal, out: &mut O) -> Result<(), Failed>
 }
 
 /// Puts the line of a refused mail line.
-fn put_mail_line<O: Sink>(line: u64, out: &mut O) -> Result<(), Failed>
-    ensures whole { OnOk result (O.told out.new ≡ extended (O.told out.old) (refusal_line (Refusal.Mail line))) }
-    ensures part { OnErr result (TakesFront (O.told out.old) (O.told out.new) (refusal_line (Refusal.Mail line))) }
+fn put_mail_line<O: Sink>(line: u64, why: MailWhy, out: &mut O) -> Result<(), Failed>
+    ensures whole { OnOk result (O.told out.new ≡ extended (O.told out.old) (refusal_line (Refusal.Mail line why))) }
+    ensures part { OnErr result (TakesFront (O.told out.old) (O.told out.new) (refusal_line (Refusal.Mail line why))) }
     ensures cause { HasCause (O.faults out.old) (O.faults out.new) result }
 {
     let mut buffer = Buffer::new();
-    put_three(out, "error: mail line ", buffer.format(line), ": Refused\n")?;
+    put_three(
+        out,
+        "error: mail line ",
+        buffer.format(line),
+        end_of_line(why),
+    )?;
     Ok(())
+}
+
+/// What stands behind the number of a refused line: its word.
+fn end_of_line(why: MailWhy) -> &'static str
+    ensures { result.now ≡ end_of_line why }
+{
+    match why {
+        MailWhy::TooMany => ": TooMany\n",
+        MailWhy::NotJson => ": NotJson\n",
+        MailWhy::Missing => ": Missing\n",
+        MailWhy::BadId => ": BadId\n",
+        MailWhy::BadMoment => ": BadMoment\n",
+        MailWhy::BadAddress => ": BadAddress\n",
+        MailWhy::BadName => ": BadName\n",
+        MailWhy::TooLong => ": TooLong\n",
+        MailWhy::Duplicate => ": Duplicate\n",
+    }
 }
 
 /// Puts three texts, one behind the other.

@@ -9,7 +9,9 @@ ghost use Rattle.history_core.specs.Legal.{IsLegal, MayFollow};
 ghost use Rattle.kumo_run.specs.Steps.{entry};
 
 use history_core::{Cause, Entry, Event, History, Next};
-use kumo_outside::{Memory, Message, Outcome, Reply, Text};
+use kumo_base::{Memory, Text};
+use kumo_outside::{Outcome, Reply};
+use queue_name::Message;
 use std::alloc::Global;
 use std::marker::Model;
 

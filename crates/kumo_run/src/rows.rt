@@ -3,7 +3,8 @@ use crate::refusal::Refusal;
 use crate::run::perform;
 use crate::scripted_peer::PeerReplies;
 use crate::work::work;
-use kumo_outside::{Bytes, MemSink, MemTexts, Memory, Text};
+use kumo_base::{Bytes, Memory, Text};
+use kumo_outside::{MemSink, MemTexts};
 use std::alloc::Global;
 use std::test::Fail;
 
@@ -19,6 +20,14 @@ const DELIVERED: &str =
 {\"at\":0,\"by\":0,\"cause\":\"Empty\",\"conn\":1,\"kind\":\"Closed\"}
 {\"at\":0,\"by\":0,\"kind\":\"Stopped\"}
 ";
+
+/// Two messages of one id, in two spellings.
+const TWICE: &str =
+    "{\"id\":\"00000000000000000000000000000001\",\"created\":0,\"sender\":\"\",\"recipient\":\"u@a.example\",\"body\":\"hi\"}\n{\"id\":\"00000000-0000-0000-0000-000000000001\",\"created\":0,\"sender\":\"\",\"recipient\":\"u@a.example\",\"body\":\"hi\"}\n";
+
+/// Two messages.
+const TWO: &str =
+    "{\"id\":\"00000000000000000000000000000001\",\"created\":0,\"sender\":\"\",\"recipient\":\"u@a.example\",\"body\":\"hi\"}\n{\"id\":\"00000000000000000000000000000002\",\"created\":0,\"sender\":\"\",\"recipient\":\"u@a.example\",\"body\":\"hi\"}\n";
 
 const STOPPED: &str = "{\"at\":0,\"by\":0,\"kind\":\"Stopped\"}\n";
 
@@ -90,7 +99,6 @@ fn one_message_delivered(rt: HostRuntime) -> Result<(), Fail> {
 #[test]
 fn statuses_and_lines(rt: HostRuntime) -> Result<(), Fail> {
     let send: &[&str] = &["send", "--mail", "m"];
-    let long = vec![in rt.alloc(); b' '; 65_537]?;
     let rows: [(&[&str], &[u8], u8, &str); 14] = [
         (send, b"", 0, STOPPED),
         (send, b"\n\r\n", 0, STOPPED),
@@ -106,11 +114,11 @@ fn statuses_and_lines(rt: HostRuntime) -> Result<(), Fail> {
         (&["--help"], b"", 2, "error: usage\n"),
         (&["send", "--mail", "-m"], b"", 2, "error: usage\n"),
         (&["send", "--mail", ""], b"", 2, "error: usage\n"),
-        (send, b"\n[]", 4, "error: mail line 2: Refused\n"),
+        (send, b"\n[]", 4, "error: mail line 2: NotJson\n"),
         (&["send", "--mail", "n"], b"", 5, "error: read fault\n"),
-        (send, &long, 12, "error: not yet mail\n"),
-        (send, b"{}\n{}\n", 12, "error: not yet mail\n"),
-        (send, b"{\"tenant\":1}", 12, "error: not yet mail\n"),
+        (send, b"{}\n{}\n", 4, "error: mail line 1: Missing\n"),
+        (send, TWICE.as_bytes(), 4, "error: mail line 2: Duplicate\n"),
+        (send, TWO.as_bytes(), 12, "error: not yet mail\n"),
     ];
     for (words, mail, status, output) in &rows {
         let left = run(rt.alloc(), words, mail, Vec::new(rt.alloc()))?;

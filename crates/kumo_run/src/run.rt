@@ -10,7 +10,8 @@ use crate::scripted_peer::{PeerReplies, ScriptedLinker};
 use crate::status::Status;
 use crate::work::work;
 use history_core::History;
-use kumo_outside::{Sink, Text, Texts};
+use kumo_base::Text;
+use kumo_outside::{Sink, Texts};
 use std::alloc::Global;
 
 /// What a call of the program leaves.

@@ -16,7 +16,8 @@ pub use replies::PeerReplies;
 #[cfg(test)]
 mod tests {
     use super::*;
-    use kumo_outside::{Failed, Link, Linker};
+    use kumo_base::Failed;
+    use kumo_outside::{Link, Linker};
     use std::alloc::Global;
     use std::test::Fail;
 

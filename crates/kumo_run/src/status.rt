@@ -15,6 +15,8 @@ pub enum Status {
     ReadFault,
     /// The log could not be written whole.
     WriteFault,
+    /// A limit would be passed.
+    Limit,
     /// There was no memory.
     Memory,
     /// The input is good, and what it asks for is not built yet.
@@ -32,6 +34,7 @@ impl Status {
             Status::Mail => 4,
             Status::ReadFault => 5,
             Status::WriteFault => 6,
+            Status::Limit => 10,
             Status::Memory => 11,
             Status::NotYet => 12,
         }

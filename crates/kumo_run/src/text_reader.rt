@@ -1,13 +1,17 @@
 //! Reading a whole text, or enough of it to know that it is too long.
 ghost use Rattle.std.specs.Prelude.{◌≡◌, ◌≤◌, ◌<◌, ◌^◌, IfOk, IfSome};
-ghost use Rattle.kumo_outside.specs.Causes.{Rose};
+ghost use Rattle.kumo_base.specs.Causes.{Rose};
 ghost use Rattle.kumo_run.specs.Reading.{IsReadUpTo};
 
-use kumo_outside::{Bytes, Memory, Texts};
+use kumo_base::{Bytes, Memory};
+use kumo_outside::Texts;
 use std::alloc::Global;
 
+/// The most bytes of a text.
+pub const TEXT_LIMIT: usize = 268_435_456;
+
 /// The most bytes of one read.
-const PIECE: usize = 16_384;
+const PIECE: usize = 65_536;
 
 /// Why a text was not read.
 #[derive(Clone, Copy, Debug, PartialEq, Eq)]

@@ -2,7 +2,7 @@
 ghost use Rattle.std.specs.Prelude.{◌≡◌, ◌∷◌, [], codes, option_map, bytes_eq};
 ghost use Rattle.kumo_run.specs.Words.{mail_name, is_value, is_send};
 
-use kumo_outside::Text;
+use kumo_base::Text;
 
 /// The name of the mail text, where the words are exactly `send`, `--mail` and a name.
 pub fn mail_name(words: &[Text]) -> Option<&str>

@@ -1,20 +1,23 @@
 //! The work before the log: the words, the mail text, and the messages of it.
-ghost use Rattle.std.specs.Prelude.{◌≡◌, [], ◌∷◌, ◌≤◌, length, IfOk, IfErr, IfSome, All};
-ghost use Rattle.kumo_outside.specs.Message.{IsProperMessage};
+ghost use Rattle.std.specs.Prelude.{◌≡◌, [], ◌∷◌, IfOk, IfErr, IfSome, All};
+ghost use Rattle.queue_name.specs.Message.{IsProperMessage};
 ghost use Rattle.kumo_run.specs.Ends.{Works};
 ghost use Rattle.kumo_run.specs.Run.{IsRun};
-ghost use Rattle.mail_input.specs.Inputs.{mail_of, messages};
+ghost use Rattle.mail_input.specs.Inputs.{messages};
+ghost use Rattle.kumo_run.specs.Given.{given_by, mail_gives};
 ghost use Rattle.kumo_run.specs.Work.{HasReason, StopsShort, IsMisread, IsUnread, refusal_of, all_sessions};
 
 use crate::dispatcher::{WorkFault, deliver};
 use crate::refusal::Refusal;
 use crate::registry::Registry;
 use crate::scripted_peer::{PeerReplies, ScriptedLinker};
-use crate::text_reader::{ReadTextFault, read_text};
+use crate::text_reader::{ReadTextFault, TEXT_LIMIT, read_text};
 use crate::words::mail_name;
 use history_core::History;
-use kumo_outside::{Memory, Message, Text, Texts};
-use mail_input::{MAIL_LIMIT, MailFault, read_mail};
+use kumo_base::{Memory, Text};
+use kumo_outside::Texts;
+use mail_input::{MailFault, read_mail};
+use queue_name::Message;
 use std::alloc::Global;
 
 /// Reads what the words name and sends its message to peers that reply so. The linker that was used is added to
@@ -45,25 +48,27 @@ fn read_messages<T: Texts>(
     texts: &mut T,
     name: &str,
 ) -> Result<Vec<Message>, Refusal>
-    ensures ok { IfSome (T.told texts.old name.now) (λ text. IfOk result (λ ms. mail_of text ≡ messages ms.items)) }
+    ensures ok { IfSome (T.told texts.old name.now) (λ text. IfOk result (λ ms. given_by text ≡ mail_gives (messages ms.items))) }
     ensures err { IfErr result (λ why. IsUnread why (T.told texts.old name.now) (T.faults texts.old) (T.faults texts.new)) }
-    ensures few { IfOk result (λ ms. length ms.items ≤ 1) }
     ensures proper { IfOk result (λ ms. All IsProperMessage ms.items) }
 {
-    match read_text(alloc, texts, name, MAIL_LIMIT) {
+    match read_text(alloc, texts, name, TEXT_LIMIT) {
         Ok(text) => messages_in(alloc, text.as_slice()),
         Err(ReadTextFault::ReadFault) => Err(Refusal::ReadFault),
         Err(ReadTextFault::Memory) => Err(Refusal::Memory),
     }
 }
 
-/// The messages that a mail text gives.
+/// The messages that a mail text gives, where it is not too long.
+#[tactic(auto, unfolding(crate::specs::Given::given_by))]
 fn messages_in(alloc: Global, text: &[u8]) -> Result<Vec<Message>, Refusal>
-    ensures ok { IfOk result (λ ms. mail_of text.now ≡ messages ms.items) }
-    ensures err { IfErr result (λ why. IsMisread why (mail_of text.now)) }
-    ensures few { IfOk result (λ ms. length ms.items ≤ 1) }
+    ensures ok { IfOk result (λ ms. given_by text.now ≡ mail_gives (messages ms.items)) }
+    ensures err { IfErr result (λ why. IsMisread why (given_by text.now)) }
     ensures proper { IfOk result (λ ms. All IsProperMessage ms.items) }
 {
+    if text.len() > TEXT_LIMIT {
+        return Err(Refusal::Limit);
+    }
     match read_mail(alloc, text) {
         Ok(messages) => Ok(messages),
         Err(fault) => Err(refusal_of(fault)),
@@ -75,20 +80,18 @@ fn refusal_of(fault: MailFault) -> Refusal
     ensures { result ≡ refusal_of fault }
 {
     match fault {
-        MailFault::At { line, why: _ } => Refusal::Mail { line },
-        MailFault::NotYet => Refusal::NotYetMail,
+        MailFault::At { line, why } => Refusal::Mail { line, why },
         MailFault::Memory => Refusal::Memory,
     }
 }
 
-/// Sends the messages, of which there is at most one so far, to peers that reply so.
+/// Sends the messages to peers that reply so. More than one is not sent yet.
 fn send(
     alloc: Global,
     messages: &[Message],
     says: PeerReplies,
     peers: &mut Vec<ScriptedLinker>,
 ) -> Result<History, Refusal>
-    requires few { length messages.now ≤ 1 }
     requires proper { All IsProperMessage messages.now }
     requires none { peers.old.items ≡ [] }
     ensures ok { IfOk result (λ h. IsRun messages.now h (all_sessions peers.new.items)) }
@@ -97,7 +100,7 @@ fn send(
     match messages {
         [] => send_nothing(alloc),
         [message] => send_one(alloc, message, says, peers),
-        _ => unreachable!(),
+        _ => Err(Refusal::NotYetMail),
     }
 }
 

@@ -1,140 +1,111 @@
-//! The fields of a mail line. Each function reads one field from the line's object, and answers `None` where the field
-//! does not keep its rule.
-ghost use Rattle.std.specs.Prelude.{◌≡◌, ◌≤◌, ◌⊎◌, [], length, Option, option_map, option_and_then, if◌then◌else◌, Some, None, IfOk, IfSome, IsTrue};
+//! The fields of a mail line. Each function reads one field from the line's object, or says why the line is refused.
+ghost use Rattle.std.specs.Prelude.{◌≡◌, ◌≤◌, ◌⊎◌, [], length, option_map, Ok, Err, IfOk, IfErr, IsTrue};
 ghost use Rattle.std.specs.Int.{w128, from_be_bytes};
-ghost use Rattle.std.specs.Str.{is_utf8};
-ghost use Rattle.serde_json.specs.Find.{as_number, as_u64, get};
+ghost use Rattle.serde_json.specs.Find.{get};
 ghost use Rattle.serde_json.specs.View.{view};
 ghost use Rattle.uuid.specs.Text.{parsed};
-ghost use Rattle.kumo_outside.specs.Address.{is_address};
-ghost use Rattle.kumo_outside.specs.Message.{IsProperMessage};
-ghost use Rattle.mail_input.specs.Fields.{object_in, text_at, id_in, created_in, sender_in, recipient_in, body_in, queue_of, names_a_queue, message_of};
+ghost use Rattle.queue_name.specs.Address.{is_address};
+ghost use Rattle.mail_input.specs.Fields.{text_at, id_in, moment_of, created_in, sender_in, recipient_in, optional_text, body_in};
 
-use kumo_outside::{
-    BODY_LIMIT, LAST_MOMENT, Memory, Message, QueueName, Text, domain_of, is_address,
-};
+use crate::MailWhy;
+use kumo_base::LAST_MOMENT;
+use queue_name::{BODY_LIMIT, is_address};
 use serde_json::Value;
-use std::alloc::Global;
 use uuid::Uuid;
 
-/// The object that a line is, `None` where it is none.
-#[tactic(auto, unfolding(crate::specs::Fields::object_in))]
-pub fn object_in(alloc: Global, line: &[u8]) -> Result<Option<Value>, Memory>
-    ensures { IfOk result (λ o. option_map view o ≡ object_in line.now) }
+/// The id, in any of the spellings of a UUID.
+pub fn id_in(value: &Value) -> Result<u128, MailWhy>
+    ensures ok { IfOk result (λ id. id_in (view value.now) ≡ Ok id) }
+    ensures err { IfErr result (λ why. id_in (view value.now) ≡ Err why) }
 {
-    let Some(text) = text_of(line) else {
-        return Ok(None);
-    };
-    match Value::from_str(alloc, text) {
-        Ok(value) => {
-            if value.is_object() {
-                Ok(Some(value))
-            } else {
-                Ok(None)
-            }
-        }
-        Err(e) => { if e.is_memory() { Err(Memory) } else { Ok(None) } }
+    match id_of(text_at(value, "id")?) {
+        Some(id) => Ok(id),
+        None => Err(MailWhy::BadId),
     }
 }
 
-/// The bytes as text.
-fn text_of(bytes: &[u8]) -> Option<&str>
-    ensures { option_map (λ s. s.now) result ≡ (if is_utf8 bytes.now then Some bytes.now else None) }
+/// The moment when the message was made, in milliseconds since 1970.
+pub fn created_in(value: &Value) -> Result<u64, MailWhy>
+    ensures ok { IfOk result (λ moment. created_in (view value.now) ≡ Ok moment) }
+    ensures err { IfErr result (λ why. created_in (view value.now) ≡ Err why) }
+    ensures within { IfOk result (λ moment. moment ≤ LAST_MOMENT) }
 {
-    match std::str::from_utf8(bytes) {
-        Ok(text) => Some(text),
-        Err(_) => None,
+    let Some(found) = value.get("created") else {
+        return Err(MailWhy::Missing);
+    };
+    match moment_of(found) {
+        Some(moment) => Ok(moment),
+        None => Err(MailWhy::BadMoment),
     }
 }
 
-/// Whether an object names another queue than its recipient's domain.
-#[tactic(auto, unfolding(crate::specs::Fields::names_a_queue))]
-pub fn names_a_queue(value: &Value) -> bool
-    ensures { result ≡ names_a_queue (view value.now) }
+/// The envelope sender, an address or nothing.
+pub fn sender_in(value: &Value) -> Result<&str, MailWhy>
+    ensures ok { IfOk result (λ s. sender_in (view value.now) ≡ Ok s.now) }
+    ensures err { IfErr result (λ why. sender_in (view value.now) ≡ Err why) }
+    ensures kept { IfOk result (λ s. (s.now ≡ []) ⊎ IsTrue (is_address s.now)) }
 {
-    value.get("campaign").is_some() || value.get("tenant").is_some()
+    let text = text_at(value, "sender")?;
+    if text.is_empty() || is_address(text) {
+        Ok(text)
+    } else {
+        Err(MailWhy::BadAddress)
+    }
 }
 
-/// The message that an object gives, where each field keeps its rule.
-#[tactic(auto, unfolding(crate::specs::Fields::message_of))]
-pub fn message_of(alloc: Global, value: &Value) -> Result<Option<Message>, Memory>
-    ensures value { IfOk result (λ m. m ≡ message_of (view value.now)) }
-    ensures proper { IfOk result (λ m. IfSome m IsProperMessage) }
+/// The envelope recipient.
+pub fn recipient_in(value: &Value) -> Result<&str, MailWhy>
+    ensures ok { IfOk result (λ s. recipient_in (view value.now) ≡ Ok s.now) }
+    ensures err { IfErr result (λ why. recipient_in (view value.now) ≡ Err why) }
+    ensures kept { IfOk result (λ s. IsTrue (is_address s.now)) }
 {
-    let Some(id) = id_in(value) else {
-        return Ok(None);
-    };
-    let Some(created) = created_in(value) else {
-        return Ok(None);
-    };
-    let Some(sender) = sender_in(value) else {
-        return Ok(None);
-    };
-    let Some(recipient) = recipient_in(value) else {
-        return Ok(None);
-    };
-    let Some(body) = body_in(value) else {
-        return Ok(None);
-    };
-    Ok(Some(message(alloc, id, created, sender, recipient, body)?))
+    let text = text_at(value, "recipient")?;
+    if is_address(text) {
+        Ok(text)
+    } else {
+        Err(MailWhy::BadAddress)
+    }
 }
 
-/// A message of fields that keep their rules.
-fn message(
-    alloc: Global,
-    id: u128,
-    created: u64,
-    sender: &str,
-    recipient: &str,
-    body: &str,
-) -> Result<Message, Memory>
-    requires created { created ≤ LAST_MOMENT }
-    requires sender { (sender.now ≡ []) ⊎ IsTrue (is_address sender.now) }
-    requires recipient { IsTrue (is_address recipient.now) }
-    requires body { length body.now ≤ BODY_LIMIT }
-    ensures value { IfOk result (λ m. m ≡ record { id = id; created = created; sender = sender.now; recipient = recipient.now; name = queue_of recipient.now; body = body.now }) }
-    ensures proper { IfOk result IsProperMessage }
+/// A component of the queue's name, where the object names one. Whether it may stand in a name is not tried here.
+pub fn component_at<'v>(value: &'v Value, key: &str) -> Result<Option<&'v str>, MailWhy>
+    ensures ok { IfOk result (λ o. optional_text (get key.now (view value.now)) ≡ Ok (option_map (λ s. s.now) o)) }
+    ensures err { IfErr result (λ why. optional_text (get key.now (view value.now)) ≡ Err why) }
 {
-    Ok(Message {
-        id,
-        created,
-        sender: Text::of(alloc, sender)?,
-        recipient: Text::of(alloc, recipient)?,
-        name: queue_of(alloc, recipient)?,
-        body: Text::of(alloc, body)?,
-    })
+    let Some(found) = value.get(key) else {
+        return Ok(None);
+    };
+    match found.as_str() {
+        Some(text) => Ok(Some(text)),
+        None => Err(MailWhy::BadName),
+    }
 }
 
-/// The queue of the recipient's domain.
-fn queue_of(alloc: Global, recipient: &str) -> Result<QueueName, Memory>
-    requires { IsTrue (is_address recipient.now) }
-    ensures { IfOk result (λ name. name ≡ queue_of recipient.now) }
+/// The message's header and body.
+pub fn body_in(value: &Value) -> Result<&str, MailWhy>
+    ensures ok { IfOk result (λ s. body_in (view value.now) ≡ Ok s.now) }
+    ensures err { IfErr result (λ why. body_in (view value.now) ≡ Err why) }
+    ensures kept { IfOk result (λ s. length s.now ≤ BODY_LIMIT) }
 {
-    let domain = domain_of(alloc, recipient)?;
-    Ok(QueueName {
-        campaign: None,
-        tenant: None,
-        domain,
-    })
+    let text = text_at(value, "body")?;
+    if text.len() <= BODY_LIMIT {
+        Ok(text)
+    } else {
+        Err(MailWhy::TooLong)
+    }
 }
 
 /// The text at a key.
-fn text_at<'v>(value: &'v Value, key: &str) -> Option<&'v str>
-    ensures { option_map (λ s. s.now) result ≡ text_at key.now (view value.now) }
+fn text_at<'v>(value: &'v Value, key: &str) -> Result<&'v str, MailWhy>
+    ensures ok { IfOk result (λ s. text_at key.now (view value.now) ≡ Ok s.now) }
+    ensures err { IfErr result (λ why. text_at key.now (view value.now) ≡ Err why) }
 {
-    match value.get(key) {
-        Some(found) => found.as_str(),
-        None => None,
-    }
-}
-
-/// The id, in any of the spellings of a UUID.
-fn id_in(value: &Value) -> Option<u128>
-    ensures { result ≡ id_in (view value.now) }
-{
-    match text_at(value, "id") {
-        Some(text) => id_of(text),
-        None => None,
+    let Some(found) = value.get(key) else {
+        return Err(MailWhy::Missing);
+    };
+    match found.as_str() {
+        Some(text) => Ok(text),
+        None => Err(MailWhy::Missing),
     }
 }
 
@@ -148,70 +119,14 @@ fn id_of(text: &str) -> Option<u128>
     }
 }
 
-/// The whole number at a key.
-fn number_at(value: &Value, key: &str) -> Option<u64>
-    ensures { result ≡ option_and_then as_u64 (option_and_then as_number (get key.now (view value.now))) }
+/// The moment that a value is.
+fn moment_of(value: &Value) -> Option<u64>
+    ensures { result ≡ moment_of (view value.now) }
 {
-    match value.get(key) {
-        Some(found) => found.as_u64(),
-        None => None,
-    }
-}
-
-/// The moment when the message was made, in milliseconds since 1970.
-fn created_in(value: &Value) -> Option<u64>
-    ensures value { result ≡ created_in (view value.now) }
-    ensures within { IfSome result (λ moment. moment ≤ LAST_MOMENT) }
-{
-    match number_at(value, "created") {
+    match value.as_u64() {
         Some(moment) => {
             if moment <= LAST_MOMENT {
                 Some(moment)
-            } else {
-                None
-            }
-        }
-        None => None,
-    }
-}
-
-/// The envelope sender, an address or nothing.
-fn sender_in(value: &Value) -> Option<&str>
-    ensures value { option_map (λ s. s.now) result ≡ sender_in (view value.now) }
-    ensures kept { IfSome result (λ s. (s.now ≡ []) ⊎ IsTrue (is_address s.now)) }
-{
-    match text_at(value, "sender") {
-        Some(text) => {
-            if text.is_empty() || is_address(text) {
-                Some(text)
-            } else {
-                None
-            }
-        }
-        None => None,
-    }
-}
-
-/// The envelope recipient.
-fn recipient_in(value: &Value) -> Option<&str>
-    ensures value { option_map (λ s. s.now) result ≡ recipient_in (view value.now) }
-    ensures kept { IfSome result (λ s. IsTrue (is_address s.now)) }
-{
-    match text_at(value, "recipient") {
-        Some(text) => { if is_address(text) { Some(text) } else { None } }
-        None => None,
-    }
-}
-
-/// The message's header and body.
-fn body_in(value: &Value) -> Option<&str>
-    ensures value { option_map (λ s. s.now) result ≡ body_in (view value.now) }
-    ensures kept { IfSome result (λ s. length s.now ≤ BODY_LIMIT) }
-{
-    match text_at(value, "body") {
-        Some(text) => {
-            if text.len() <= BODY_LIMIT {
-                Some(text)
             } else {
                 None
             }

@@ -1,7 +1,7 @@
 -- A part of the transcript from the steps that it takes: words, the reply to them, and what goes on behind it.
 use Rattle.std.proofs.Common.{◌≡◌, ℕ, ◌≤◌, ◌⊎◌, List, [], ◌++◌, Bool, true, false, Ok, Err, refl, ap, sym, subst, inl, inr, ◌∙◌, append_assoc, append-nil, le_trans, arith}
 use Rattle.std.proofs.lemmas.Bool.{false≢true}
-use Rattle.kumo_outside.specs.Causes.{Rose}
+use Rattle.kumo_base.specs.Causes.{Rose}
 use Rattle.kumo_outside.specs.Told.{extended, TakesFront, TakesProperFront}
 use Rattle.kumo_outside.specs.declared.reply.Outcome.{Outcome}
 use Rattle.kumo_outside.specs.declared.reply.Lost.{Lost}

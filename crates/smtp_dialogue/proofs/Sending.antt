@@ -1,6 +1,6 @@
 -- Pieces sent one after the other, whole or up to a fault.
 use Rattle.std.proofs.Common.{◌≡◌, ℕ, ◌+◌, ◌<◌, ◌≤◌, List, [], ◌++◌, length, take, drop, Bool, false, Option, refl, ap, sym, ◌∙◌, take-append-drop, length-drop, take-add, le_trans, arith}
-use Rattle.kumo_outside.specs.Causes.{Rose}
+use Rattle.kumo_base.specs.Causes.{Rose}
 use Rattle.kumo_outside.specs.Told.{extended}
 use Rattle.smtp_dialogue.specs.Steps.{Sends, FailsToSend}
 use Rattle.kumo_outside.proofs.ToldLemmas.{extended-next, extended-nil, TakesProperFront-after, TakesProperFront-more}

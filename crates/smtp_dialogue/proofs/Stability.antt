@@ -2,7 +2,7 @@
 use Rattle.std.proofs.Common.{◌≡◌, ℕ, ◌/◌, ◌==◌, List, [], ◌∷◌, ◌++◌, drop, codes, Bool, true, false, cond, refl, ap, ap₂, sym, ◌∙◌}
 use Rattle.std.proofs.lemmas.List.{drop-append-le}
 use Rattle.std.proofs.lemmas.Bool.{false≢true}
-use Rattle.kumo_outside.specs.declared.message.Message.{Message}
+use Rattle.queue_name.specs.declared.message.Message.{Message}
 use Rattle.kumo_outside.specs.declared.reply.Lost.{Lost}
 use Rattle.kumo_outside.specs.declared.reply.Outcome.{Outcome}
 use Rattle.kumo_outside.specs.declared.reply.Outcome.TheVariants as outcome

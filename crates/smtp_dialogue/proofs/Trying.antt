@@ -1,6 +1,6 @@
 -- One try of a message from its stages.
 use Rattle.std.proofs.Common.{◌≡◌, ℕ, ◌≤◌, ◌/◌, ◌==◌, List, [], ◌∷◌, ◌++◌, codes, Bool, true, false, cond, Result, Ok, Err, refl, ap, sym, subst, inl, inr, ◌∙◌, append_assoc, le_trans, arith}
-use Rattle.kumo_outside.specs.Causes.{Rose}
+use Rattle.kumo_base.specs.Causes.{Rose}
 use Rattle.kumo_outside.specs.declared.reply.Reply.{Reply}
 use Rattle.kumo_outside.specs.declared.reply.Outcome.{Outcome}
 use Rattle.kumo_outside.specs.declared.reply.Outcome.TheVariants as outcome

@@ -3,7 +3,7 @@
 use Rattle.std.specs.Prelude.{ℕ, ◌+◌, ◌-◌, ◌*◌, ◌==◌, nat_lt, nat_le, List, [], ◌∷◌, ◌++◌, length, take, drop, map, position, Bool, ◌&&◌, Option, Some, None, if◌then◌else◌}
 use Rattle.std.specs.Str.Lines.{strip_carriage_return}
 use Rattle.kumo_outside.specs.ReplyText.{digits_of, is_printable}
-use Rattle.kumo_outside.specs.declared.reply.TheConstants.{REPLY_TEXT_LIMIT}
+use Rattle.kumo_base.specs.declared.room.TheConstants.{REPLY_TEXT_LIMIT}
 use Rattle.smtp_dialogue.specs.declared.heard.TheConstants.{REPLY_LIMIT}
 use Rattle.smtp_dialogue.specs.declared.heard.Heard.{Heard}
 use Rattle.smtp_dialogue.specs.declared.heard.Heard.TheVariants.{Whole, More, Bad, TooLong}

@@ -1,6 +1,6 @@
 -- What a call of the dialogue does, by the part of the transcript that it stands for.
 use Rattle.std.specs.Prelude.{◌≡◌, ℕ, ◌≤◌, ◌⊎◌, List, ◌++◌, Bool, true, false, Option}
-use Rattle.kumo_outside.specs.Causes.{Rose}
+use Rattle.kumo_base.specs.Causes.{Rose}
 use Rattle.kumo_outside.specs.Told.{extended, TakesFront, TakesProperFront}
 use Rattle.kumo_outside.specs.declared.reply.Outcome.{Outcome}
 use Rattle.smtp_dialogue.specs.Transcript.{Spoken, waiting, is_alive}

@@ -1,6 +1,6 @@
 -- What the inner steps of the dialogue do: sending, listening, asking, and one try of a message.
 use Rattle.std.specs.Prelude.{◌≡◌, ℕ, ◌≤◌, ◌⊎◌, List, ◌++◌, drop, Bool, true, false, Option, Result, Ok, Err}
-use Rattle.kumo_outside.specs.Causes.{Rose}
+use Rattle.kumo_base.specs.Causes.{Rose}
 use Rattle.kumo_outside.specs.Told.{extended, TakesProperFront}
 use Rattle.kumo_outside.specs.declared.reply.Lost.{Lost}
 use Rattle.kumo_outside.specs.declared.reply.Lost.TheVariants.{LinkFault, Ended, BadReply, TooLong}

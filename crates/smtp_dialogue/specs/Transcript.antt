@@ -1,7 +1,7 @@
 -- What a client sends and what becomes of each message, for given bytes got (RFC 5321 sections 3 and 4.3). Each part of
 -- a session is a function of the bytes that can be read; it stands in the order in which the client speaks.
 use Rattle.std.specs.Prelude.{◌≡◌, ℕ, ◌/◌, ◌==◌, List, [], ◌∷◌, ◌++◌, drop, codes, Bool, true, false, if◌then◌else◌}
-use Rattle.kumo_outside.specs.declared.message.Message.{Message}
+use Rattle.queue_name.specs.declared.message.Message.{Message}
 use Rattle.kumo_outside.specs.declared.session.Session.{Session}
 use Rattle.kumo_outside.specs.declared.reply.Reply.{Reply}
 use Rattle.kumo_outside.specs.declared.reply.Lost.{Lost}

@@ -1,6 +1,6 @@
 -- What one try of a message does, by the part of the transcript that it stands for.
 use Rattle.std.specs.Prelude.{◌≡◌, ℕ, List, [], ◌∷◌, Bool, true, false}
-use Rattle.kumo_outside.specs.Causes.{Rose}
+use Rattle.kumo_base.specs.Causes.{Rose}
 use Rattle.kumo_outside.specs.ReplyText.{IsProperOutcome}
 use Rattle.kumo_outside.specs.declared.reply.Reply.{Reply}
 use Rattle.kumo_outside.specs.declared.reply.Outcome.{Outcome}

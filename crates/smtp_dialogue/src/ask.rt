@@ -9,7 +9,8 @@ use crate::body::send_body;
 use crate::listen::{take_code, take_reply};
 use crate::scratch::Scratch;
 use crate::send::send_three;
-use kumo_outside::{Link, Lost, Room};
+use kumo_base::Room;
+use kumo_outside::{Link, Lost};
 
 /// Sends a command, and reads the reply to it and its text.
 pub(crate) fn ask<L: Link>(

@@ -5,7 +5,8 @@ ghost use Rattle.smtp_dialogue.specs.FirstLine.{is_line_end, line_length, behind
 ghost use Rattle.smtp_dialogue.specs.Steps.{Sends, FailsToSend};
 
 use crate::send::{send_all, send_three};
-use kumo_outside::{Failed, Link};
+use kumo_base::Failed;
+use kumo_outside::Link;
 
 /// Sends the lines of a body and the line `.`. After `Failed` a front of them was sent, and not all.
 pub(crate) fn send_body<L: Link>(link: &mut L, body: &str) -> Result<(), Failed>

@@ -2,7 +2,7 @@
 //!
 //! Each function is one stage: it stands where a reply was read, and goes on with its code and text.
 ghost use Rattle.std.specs.Prelude.{◌≡◌, ◌/◌, ◌==◌, ℕ, List, [], ◌∷◌, true, false, Bool};
-ghost use Rattle.kumo_outside.specs.Causes.{Rose};
+ghost use Rattle.kumo_base.specs.Causes.{Rose};
 ghost use Rattle.kumo_outside.specs.ReplyText.{IsReplyText, IsProperOutcome};
 ghost use Rattle.kumo_outside.specs.declared.reply.Lost.TheVariants.{LinkFault, Ended};
 ghost use Rattle.smtp_dialogue.specs.Transcript.{ends, is_positive, resets, refused, after_body, after_data, after_recipient, after_sender, attempted};
@@ -11,7 +11,8 @@ ghost use Rattle.smtp_dialogue.specs.Tries.{Tries, IsDecided, standing_of};
 
 use crate::ask::{ask, ask_body, ask_code};
 use crate::scratch::Scratch;
-use kumo_outside::{Link, Lost, Outcome, Reply, Room};
+use kumo_base::Room;
+use kumo_outside::{Link, Lost, Outcome, Reply};
 
 /// What came of one attempt.
 #[derive(Drop)]

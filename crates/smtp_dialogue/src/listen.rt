@@ -7,7 +7,8 @@ ghost use Rattle.smtp_dialogue.specs.Steps.{Gets, IsCutOff, Listens, Hears};
 use crate::heard::{Heard, REPLY_LIMIT, hear};
 use crate::reply_text::write_text;
 use crate::scratch::Scratch;
-use kumo_outside::{Link, Lost, Room};
+use kumo_base::Room;
+use kumo_outside::{Link, Lost};
 
 /// The reply that the bytes begin with.
 #[derive(Clone, Copy, Debug, PartialEq, Eq)]

@@ -4,7 +4,7 @@ ghost use Rattle.std.specs.Str.Lines.{strip_carriage_return};
 ghost use Rattle.kumo_outside.specs.ReplyText.{digits_of};
 ghost use Rattle.smtp_dialogue.specs.Heard.{shown, text_in, one_line_text};
 
-use kumo_outside::{REPLY_TEXT_LIMIT, Room};
+use kumo_base::{REPLY_TEXT_LIMIT, Room};
 
 /// The bytes of a code and the blank behind it.
 const TEXT_START: usize = 4;

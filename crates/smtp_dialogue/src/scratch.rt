@@ -2,7 +2,7 @@
 ghost use Rattle.std.specs.Prelude.{◌≡◌, ◌+◌, ◌≤◌, ◌++◌, ℕ, List, [], length, drop, IfOk, vec_capacity};
 
 use crate::heard::REPLY_LIMIT;
-use kumo_outside::Memory;
+use kumo_base::Memory;
 use std::alloc::Global;
 use std::marker::Model;
 

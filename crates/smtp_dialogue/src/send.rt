@@ -2,7 +2,8 @@
 ghost use Rattle.std.specs.Prelude.{◌≡◌, ◌++◌, ℕ, List, length, MatchResult};
 ghost use Rattle.smtp_dialogue.specs.Steps.{Sends, FailsToSend};
 
-use kumo_outside::{Failed, Link};
+use kumo_base::Failed;
+use kumo_outside::Link;
 
 /// Sends all bytes. After `Failed` a front of them was sent, and not all.
 pub(crate) fn send_all<L: Link>(link: &mut L, bytes: &[u8]) -> Result<(), Failed>

@@ -2,7 +2,8 @@
 ghost use Rattle.std.specs.Prelude.{◌≡◌, [], None};
 
 use crate::{Greeted, Scratch, attempt, farewell, greet};
-use kumo_outside::{Failed, Link, Lost, Outcome, Room};
+use kumo_base::{Failed, Room};
+use kumo_outside::{Link, Lost, Outcome};
 use std::alloc::Global;
 use std::process::Abort;
 use std::test::Fail;

@@ -2,13 +2,15 @@
 ghost use Rattle.std.specs.Prelude.{◌≡◌, IfOk, OnOk};
 ghost use Rattle.serde_json.specs.Data.{put as with_member, string};
 ghost use Rattle.serde_json.specs.View.{members_view, view};
-ghost use Rattle.kumo_outside.specs.QueueName.{spelling};
+ghost use Rattle.queue_name.specs.QueueName.{spelling};
 ghost use Rattle.history_core.specs.declared.entry.Event.TheVariants as event;
 ghost use Rattle.history_core.specs.LogText.{id_text, cause_text, lost_text, settled_kind, final_end, transient_failure, event_data, entry_data, whole_number};
 ghost use Rattle.kumo_run.specs.LogMembers.{common_members, with_decision};
 
 use history_core::{Cause, Entry, Event, Next};
-use kumo_outside::{Lost, Memory, Message, Outcome, QueueName, Text};
+use kumo_base::{Memory, Text};
+use kumo_outside::{Lost, Outcome};
+use queue_name::{Message, QueueName};
 use serde_json::{Map, Value, put};
 use std::alloc::Global;
 use uuid::Uuid;

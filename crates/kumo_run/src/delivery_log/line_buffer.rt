@@ -1,7 +1,7 @@
 //! The buffer in which lines are gathered before they are put into a sink.
 ghost use Rattle.std.specs.Prelude.{◌≡◌, ◌≤◌, ◌+◌, ◌++◌, List, [], ℕ, IfOk, IsTrue, ◌↔◌, length, vec_capacity};
 
-use kumo_outside::Memory;
+use kumo_base::Memory;
 use std::alloc::Global;
 use std::marker::Model;
 

@@ -1,15 +1,16 @@
 //! The log text of a whole history, put into a sink.
 ghost use Rattle.std.specs.Prelude.{◌≡◌, ◌≤◌, ◌++◌, OnOk, OnErr, Err};
-ghost use Rattle.kumo_outside.specs.Causes.{Rose};
+ghost use Rattle.kumo_base.specs.Causes.{Rose};
 ghost use Rattle.kumo_outside.specs.Told.{extended, TakesFront};
 ghost use Rattle.history_core.specs.LogText.{log_text};
 ghost use Rattle.kumo_run.specs.declared.delivery_log.log.LogWriteFault.TheVariants as fault;
 ghost use Rattle.kumo_run.specs.LogGathered.{Gathers};
 
-use super::entry_line::entry_line;
+use super::line::entry_line;
 use super::line_buffer::LineBuffer;
 use history_core::History;
-use kumo_outside::{Failed, Memory, Sink, put_all};
+use kumo_base::{Failed, Memory};
+use kumo_outside::{Sink, put_all};
 use std::alloc::Global;
 
 /// Why a log was not written whole. A front of it was.

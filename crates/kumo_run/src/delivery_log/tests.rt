@@ -1,7 +1,9 @@
 //! Lines as they are to be written, and a log that is put in pieces.
 use super::{entry_line, write_log};
 use history_core::{Cause, Entry, Event, History, Next};
-use kumo_outside::{Lost, MemSink, Memory, Message, Outcome, QueueName, Reply, Text};
+use kumo_base::{Memory, Text};
+use kumo_outside::{Lost, MemSink, Outcome, Reply};
+use queue_name::{Message, QueueName};
 use std::alloc::Global;
 use std::process::Abort;
 use std::test::Fail;

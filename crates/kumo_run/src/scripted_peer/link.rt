@@ -5,7 +5,8 @@ ghost use Rattle.kumo_run.specs.ScriptedPeer.{LinkState};
 
 use crate::scripted_peer::peer::Peer;
 use crate::scripted_peer::replies::{KEY_COUNT, PeerReplies};
-use kumo_outside::{Bytes, Failed, Link, Memory, Session, Text};
+use kumo_base::{Bytes, Failed, Memory, Text};
+use kumo_outside::{Link, Session};
 use std::alloc::Global;
 use std::marker::Model;
 

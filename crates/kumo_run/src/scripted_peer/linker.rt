@@ -5,7 +5,8 @@ ghost use Rattle.kumo_run.specs.ScriptedPeer.{LinkerState, LinkState};
 
 use crate::scripted_peer::link::ScriptedLink;
 use crate::scripted_peer::replies::{KEY_COUNT, PeerReplies};
-use kumo_outside::{Bytes, Failed, Linker, Memory, Session, Text};
+use kumo_base::{Bytes, Failed, Memory, Text};
+use kumo_outside::{Linker, Session};
 use std::alloc::Global;
 use std::marker::Model;
 

@@ -3,7 +3,7 @@ ghost use Rattle.std.specs.Prelude.{◌≡◌, ◌<◌, ◌≤◌, ◌++◌, len
 ghost use Rattle.kumo_run.specs.ScriptedPeer.{Begins};
 
 use crate::scripted_peer::replies::{KEY_COUNT, Key, PeerReplies};
-use kumo_outside::Memory;
+use kumo_base::Memory;
 use std::alloc::Global;
 
 /// The reply to a command that the peer does not know.

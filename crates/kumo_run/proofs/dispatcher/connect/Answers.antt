@@ -1,6 +1,6 @@
 use Rattle.std.proofs.Common.{◌≡◌, ℕ, List, [], ◌∷◌, ◌++◌, length, set, Option, Some, None, Result, Ok, Err, IfSome, Bool, refl, ap, ◌∙◌, subst}
 use Rattle.kumo_outside.specs.Sessions.{Opening, Opens, GivesBack, fresh}
-use Rattle.kumo_outside.specs.declared.message.Message.{Message}
+use Rattle.queue_name.specs.declared.message.Message.{Message}
 use Rattle.kumo_outside.specs.declared.session.Session.{Session}
 use Rattle.kumo_run.specs.declared.dispatcher.WorkFault.{WorkFault}
 use Rattle.kumo_run.specs.declared.dispatcher.WorkFault.TheVariants.{NotOpened, NotDelivered, Memory}

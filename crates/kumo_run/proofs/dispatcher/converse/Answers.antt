@@ -1,6 +1,6 @@
 use Rattle.std.proofs.Common.{Option, ◌≡◌, ℕ, List, [], ◌∷◌, Result, Ok, Err, Bool, true, false, not, refl}
 use Rattle.kumo_outside.specs.Sessions.{Opening}
-use Rattle.kumo_outside.specs.declared.message.Message.{Message}
+use Rattle.queue_name.specs.declared.message.Message.{Message}
 use Rattle.kumo_outside.specs.declared.reply.Outcome.{Outcome}
 use Rattle.kumo_outside.specs.declared.reply.Outcome.TheVariants.{Lost}
 use Rattle.kumo_outside.specs.declared.reply.Lost.TheVariants.{LinkFault}

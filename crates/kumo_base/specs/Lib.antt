@@ -1,0 +1,4 @@
+pub mod Causes
+pub mod Duration
+pub mod Moment
+pub mod Lines

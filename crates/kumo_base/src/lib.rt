@@ -1,0 +1,25 @@
+//! The plain data that every crate speaks of: texts, bytes and lists that contracts see as lists, the two answers without
+//! a cause in the data, room for a reply, numbered lines, moments and durations.
+//!
+//! It stands on nothing. What is here is said once for the whole core.
+#![tactic(auto)]
+
+mod bytes;
+mod duration;
+mod faults;
+mod items;
+mod lines;
+mod moment;
+mod room;
+#[cfg(test)]
+mod tests;
+mod text;
+
+pub use bytes::Bytes;
+pub use duration::{DurationFault, DurationWhy, LONGEST_DURATION, duration_of};
+pub use faults::{Failed, Memory};
+pub use items::Items;
+pub use lines::Lines;
+pub use moment::LAST_MOMENT;
+pub use room::{REPLY_TEXT_LIMIT, Room};
+pub use text::Text;

@@ -1,5 +1,0 @@
-use Rattle.kumo_outside.proofs.AddressLemmas.{around_at_is}
-use Rattle.kumo_outside.proofs.address.around_at.Goals as goal
-
-pub returns : goal.returns
-returns c = around_at_is c.args.address.now _ c.rsplit_once.ensures.cases

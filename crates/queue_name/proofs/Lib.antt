@@ -1,0 +1,6 @@
+pub mod AddressLemmas
+pub mod CutLemmas
+pub mod NameTextLemmas
+pub mod EqualLemmas
+pub mod ProperLemmas
+pub mod SpellingLemmas

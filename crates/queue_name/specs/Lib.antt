@@ -1,0 +1,5 @@
+pub mod QueueName
+pub mod Address
+pub mod Message
+pub mod NameText
+pub mod Criteria
