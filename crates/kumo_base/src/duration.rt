@@ -150,8 +150,8 @@ fn product(number: u64, factor: u64) -> u64
     number.saturating_mul(factor).min(TOO_LONG)
 }
 
-/// The milliseconds of a unit.
-fn unit_milliseconds(name: &[u8]) -> Option<u64>
+/// The milliseconds of a unit, as `mins`, or none where the name is no unit's.
+pub fn unit_milliseconds(name: &[u8]) -> Option<u64>
     ensures value { result ≡ unit_milliseconds name.now }
     ensures positive { IfSome result (λ factor. 0 < factor) }
 {

@@ -16,7 +16,7 @@ mod tests;
 mod text;
 
 pub use bytes::Bytes;
-pub use duration::{DurationFault, DurationWhy, LONGEST_DURATION, duration_of};
+pub use duration::{DurationFault, DurationWhy, LONGEST_DURATION, duration_of, unit_milliseconds};
 pub use faults::{Failed, Memory};
 pub use items::Items;
 pub use lines::Lines;

@@ -1,0 +1,3 @@
+pub mod Throttle
+pub mod Bucket
+pub mod ThrottleText
