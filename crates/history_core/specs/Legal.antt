@@ -2,9 +2,9 @@
 use Rattle.std.specs.Prelude.{◌≡◌, ℕ, ◌+◌, ◌≤◌, List, [], ◌∷◌, ◌++◌, false, Some, None, length, ⊤}
 use Rattle.std.specs.List.{list_any}
 use Rattle.queue_name.specs.Message.{IsProperMessage}
-use Rattle.kumo_outside.specs.ReplyText.{IsProperOutcome}
-use Rattle.kumo_outside.specs.declared.reply.Outcome.{Outcome}
-use Rattle.kumo_outside.specs.declared.reply.Outcome.TheVariants as outcome
+use Rattle.smtp_reply.specs.ReplyText.{IsProperOutcome}
+use Rattle.smtp_reply.specs.declared.reply.Outcome.{Outcome}
+use Rattle.smtp_reply.specs.declared.reply.Outcome.TheVariants as outcome
 use Rattle.kumo_base.specs.declared.moment.TheConstants.{LAST_MOMENT}
 use Rattle.history_core.specs.declared.entry.Entry.{Entry}
 use Rattle.history_core.specs.declared.entry.Event.{Event}

@@ -6,10 +6,10 @@ use Rattle.serde_json.specs.Written.{compact_text}
 use Rattle.uuid.specs.Text.{hyphenated_text, lower}
 use Rattle.queue_name.specs.QueueName.{spelling}
 use Rattle.queue_name.specs.declared.message.Message.{Message}
-use Rattle.kumo_outside.specs.declared.reply.Lost.{Lost}
-use Rattle.kumo_outside.specs.declared.reply.Lost.TheVariants as lost
-use Rattle.kumo_outside.specs.declared.reply.Outcome.{Outcome}
-use Rattle.kumo_outside.specs.declared.reply.Outcome.TheVariants as outcome
+use Rattle.smtp_reply.specs.declared.reply.Lost.{Lost}
+use Rattle.smtp_reply.specs.declared.reply.Lost.TheVariants as lost
+use Rattle.smtp_reply.specs.declared.reply.Outcome.{Outcome}
+use Rattle.smtp_reply.specs.declared.reply.Outcome.TheVariants as outcome
 use Rattle.history_core.specs.declared.entry.Entry.{Entry}
 use Rattle.history_core.specs.declared.entry.Event.{Event}
 use Rattle.history_core.specs.declared.entry.Event.TheVariants.{Accepted, Promoted, Opened, Begun, Ended, Closed, Stopped}

@@ -1,7 +1,7 @@
 //! One event of the core, as the history keeps it and the log prints it.
 use kumo_base::Text;
-use kumo_outside::Outcome;
 use queue_name::Message;
+use smtp_reply::Outcome;
 
 /// The most open connections of a path, where nothing else is set (KumoMTA, `connection_limit`).
 pub const CONNECTION_LIMIT: u32 = 32;

@@ -1,4 +1,3 @@
 pub mod Told
-pub mod ReplyText
 pub mod Sessions
 pub mod Devices

@@ -1,7 +1,7 @@
 -- The values of the log have no floats.
 use Rattle.std.proofs.Common.{◌≡◌, ℕ, false, refl}
 use Rattle.serde_json.specs.Written.{has_float}
-use Rattle.kumo_outside.specs.declared.reply.Outcome.TheVariants as outcome
+use Rattle.smtp_reply.specs.declared.reply.Outcome.TheVariants as outcome
 use Rattle.history_core.specs.declared.entry.Entry.{Entry}
 use Rattle.history_core.specs.declared.entry.Event.{Event}
 use Rattle.history_core.specs.declared.entry.Event.TheVariants.{Accepted, Promoted, Opened, Begun, Ended, Closed, Stopped}

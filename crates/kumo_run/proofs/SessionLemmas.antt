@@ -7,9 +7,9 @@ use Rattle.kumo_outside.specs.Told.{extended, ExtendsByFront, TakesFront, TakesP
 use Rattle.kumo_outside.specs.Sessions.{Opening}
 use Rattle.queue_name.specs.declared.message.Message.{Message}
 use Rattle.kumo_outside.specs.declared.session.Session.{Session}
-use Rattle.kumo_outside.specs.declared.reply.Reply.{Reply}
-use Rattle.kumo_outside.specs.declared.reply.Outcome.{Outcome}
-use Rattle.kumo_outside.specs.declared.reply.Outcome.TheVariants.{Delivered}
+use Rattle.smtp_reply.specs.declared.reply.Reply.{Reply}
+use Rattle.smtp_reply.specs.declared.reply.Outcome.{Outcome}
+use Rattle.smtp_reply.specs.declared.reply.Outcome.TheVariants.{Delivered}
 use Rattle.kumo_outside.proofs.ToldLemmas.{extended-told, TakesFront-whole, TakesFront-more, TakesProperFront-more}
 use Rattle.smtp_dialogue.specs.Transcript.{Spoken, Standing, alive, over, waiting, is_alive, ends, joined_at, followed_by, greeting, attempted, parting, attempts, before_parting, transcript, IsFront, IsTranscript}
 use Rattle.smtp_dialogue.specs.Speaks.{Side, side, IsWhole, IsCutShort, Speaks, with_more, IsStable}

@@ -1,10 +1,10 @@
 -- Each entry of the run of one delivered message may follow those before it.
 use Rattle.std.proofs.Common.{eq-eqb, ◌≡◌, ℕ, ◌≤◌, ◌==◌, nat_eq, List, [], ◌∷◌, ◌++◌, true, refl, sym, subst, ap, arith, append_assoc, append-nil, bytes_eq}
 use Rattle.queue_name.specs.Message.{IsProperMessage}
-use Rattle.kumo_outside.specs.ReplyText.{IsReplyOf}
+use Rattle.smtp_reply.specs.ReplyText.{IsReplyOf}
 use Rattle.queue_name.specs.declared.message.Message.{Message}
-use Rattle.kumo_outside.specs.declared.reply.Reply.{Reply}
-use Rattle.kumo_outside.specs.declared.reply.Outcome.TheVariants.{Delivered}
+use Rattle.smtp_reply.specs.declared.reply.Reply.{Reply}
+use Rattle.smtp_reply.specs.declared.reply.Outcome.TheVariants.{Delivered}
 use Rattle.history_core.specs.declared.entry.Entry.{Entry}
 use Rattle.history_core.specs.declared.entry.Event.TheVariants as event
 use Rattle.history_core.specs.declared.entry.Next.TheVariants.{Settled}

@@ -2,8 +2,8 @@
 use Rattle.std.specs.Prelude.{◌≡◌, ℕ, List, [], ◌∷◌, codes}
 use Rattle.queue_name.specs.declared.message.Message.{Message}
 use Rattle.kumo_outside.specs.declared.session.Session.{Session}
-use Rattle.kumo_outside.specs.declared.reply.Reply.{Reply}
-use Rattle.kumo_outside.specs.declared.reply.Outcome.TheVariants.{Delivered}
+use Rattle.smtp_reply.specs.declared.reply.Reply.{Reply}
+use Rattle.smtp_reply.specs.declared.reply.Outcome.TheVariants.{Delivered}
 use Rattle.history_core.specs.History.{unspecified}
 use Rattle.smtp_dialogue.specs.Transcript.{Spoken, alive, before_parting, IsFront, IsTranscript}
 

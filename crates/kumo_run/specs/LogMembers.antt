@@ -1,8 +1,8 @@
 -- The members of the lines of the log.
 use Rattle.std.specs.Prelude.{ℕ, List, codes}
 use Rattle.serde_json.specs.Data.{string, Members, member, no_members, put}
-use Rattle.kumo_outside.specs.declared.reply.Outcome.{Outcome}
-use Rattle.kumo_outside.specs.declared.reply.Outcome.TheVariants as outcome
+use Rattle.smtp_reply.specs.declared.reply.Outcome.{Outcome}
+use Rattle.smtp_reply.specs.declared.reply.Outcome.TheVariants as outcome
 use Rattle.history_core.specs.LogText.{lost_text, whole_number}
 
 -- what each line has: when, by which pass and what

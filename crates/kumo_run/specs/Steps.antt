@@ -1,8 +1,8 @@
 -- The run of one message that is delivered, entry by entry. Every moment is 0, and the one pass has the number 0.
 use Rattle.std.specs.Prelude.{ℕ, List, [], ◌∷◌, ◌++◌, codes}
 use Rattle.queue_name.specs.declared.message.Message.{Message}
-use Rattle.kumo_outside.specs.declared.reply.Reply.{Reply}
-use Rattle.kumo_outside.specs.declared.reply.Outcome.TheVariants.{Delivered}
+use Rattle.smtp_reply.specs.declared.reply.Reply.{Reply}
+use Rattle.smtp_reply.specs.declared.reply.Outcome.TheVariants.{Delivered}
 use Rattle.history_core.specs.declared.entry.Entry.{Entry}
 use Rattle.history_core.specs.declared.entry.Event.{Event}
 use Rattle.history_core.specs.declared.entry.Event.TheVariants as event

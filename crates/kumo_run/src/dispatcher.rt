@@ -5,7 +5,7 @@
 ghost use Rattle.std.specs.Prelude.{◌≡◌, [], ◌++◌, false, codes, IfOk, IfSome};
 ghost use Rattle.kumo_base.specs.Causes.{Rose};
 ghost use Rattle.queue_name.specs.Message.{IsProperMessage};
-ghost use Rattle.kumo_outside.specs.ReplyText.{IsProperOutcome};
+ghost use Rattle.smtp_reply.specs.ReplyText.{IsProperOutcome};
 ghost use Rattle.smtp_dialogue.specs.Transcript.{parting};
 ghost use Rattle.smtp_dialogue.specs.Speaks.{Speaks, side};
 ghost use Rattle.kumo_run.specs.Steps.{promoted, opened, begun};
@@ -13,7 +13,8 @@ ghost use Rattle.kumo_run.specs.Working.{IsFreshLink, Converses, Parts, Connects
 
 use crate::registry::Registry;
 use kumo_base::{Memory, Room, Text};
-use kumo_outside::{Link, Linker, Outcome};
+use kumo_outside::{Link, Linker};
+use smtp_reply::Outcome;
 use queue_name::Message;
 use smtp_dialogue::{Greeted, Scratch, attempt, farewell, greet};
 use std::alloc::Global;

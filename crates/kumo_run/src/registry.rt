@@ -10,7 +10,7 @@ ghost use Rattle.kumo_run.specs.Steps.{entry};
 
 use history_core::{Cause, Entry, Event, History, Next};
 use kumo_base::{Memory, Text};
-use kumo_outside::{Outcome, Reply};
+use smtp_reply::{Outcome, Reply};
 use queue_name::Message;
 use std::alloc::Global;
 use std::marker::Model;

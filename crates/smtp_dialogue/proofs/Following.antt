@@ -2,9 +2,10 @@
 use Rattle.std.proofs.Common.{◌≡◌, ℕ, ◌≤◌, List, ◌++◌, Bool, true, refl, ap, sym, subst, inl, inr, ◌∙◌, append_assoc, le_trans, arith}
 use Rattle.std.proofs.lemmas.Bool.{false≢true}
 use Rattle.kumo_outside.specs.Told.{extended, TakesFront, TakesProperFront}
-use Rattle.kumo_outside.specs.declared.reply.Outcome.{Outcome}
+use Rattle.smtp_reply.specs.declared.reply.Outcome.{Outcome}
 use Rattle.smtp_dialogue.specs.Transcript.{Spoken, Standing, alive, over, waiting, is_alive, joined_at, followed_by}
 use Rattle.smtp_dialogue.specs.Speaks.{Side, IsWhole, IsCutShort, Speaks, with_more, IsStable}
+use Rattle.smtp_dialogue.proofs.Parts.{reset_behind}
 use Rattle.kumo_outside.proofs.ToldLemmas.{extended-next, TakesFront-after, TakesProperFront-after}
 
 -- what is joined where the first part left the link alive
@@ -34,7 +35,7 @@ whole_then_short s0 s1 s2 t u v o1 f2 o2 a later w x es eo et = record {
     | inl e ↦ inl (et ∙ e)
     | inr f ↦ inr (subst (TakesProperFront s0.sent s2.sent) (sym es) (TakesProperFront-after s0.sent s1.sent s2.sent t.sent u.sent w.sent f))
   ];
-  outcomes_are = elim x.outcomes_are [ inl e ↦ inl (ap (λ (o : List Outcome). o1 ++ o) e) | inr e ↦ inr (cc (w.outcomes_are, e)) ];
+  outcomes_are = elim x.outcomes_are [ inl e ↦ inl (ap (λ (o : List Outcome). o1 ++ o) e) | inr e ↦ inr (cc (w.outcomes_are, e.0), reset_behind s0 s1 s2 t.sent v u w.sent es e.1) ];
 }
 
 -- what two parts joined are, where the first is stable and left the link alive

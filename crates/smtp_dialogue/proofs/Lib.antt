@@ -1,4 +1,3 @@
-pub mod Replies
 pub mod Stability
 pub mod Following
 pub mod Sending

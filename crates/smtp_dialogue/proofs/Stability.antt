@@ -1,19 +1,21 @@
 -- Parts that leave the link alive stay as they were when more bytes come.
-use Rattle.std.proofs.Common.{◌≡◌, ℕ, ◌/◌, ◌==◌, List, [], ◌∷◌, ◌++◌, drop, codes, Bool, true, false, cond, refl, ap, ap₂, sym, ◌∙◌}
-use Rattle.std.proofs.lemmas.List.{drop-append-le}
+use Rattle.std.proofs.Common.{◌≡◌, ℕ, ◌/◌, ◌==◌, List, [], ◌∷◌, ◌++◌, take, drop, codes, Bool, true, false, cond, refl, ap, ap₂, sym, ◌∙◌}
+use Rattle.std.proofs.lemmas.List.{take-append-le, drop-append-le}
 use Rattle.std.proofs.lemmas.Bool.{false≢true}
 use Rattle.queue_name.specs.declared.message.Message.{Message}
-use Rattle.kumo_outside.specs.declared.reply.Lost.{Lost}
-use Rattle.kumo_outside.specs.declared.reply.Outcome.{Outcome}
-use Rattle.kumo_outside.specs.declared.reply.Outcome.TheVariants as outcome
-use Rattle.kumo_outside.specs.declared.reply.Lost.TheVariants.{BadReply}
-use Rattle.smtp_dialogue.specs.declared.heard.Heard.{Heard}
-use Rattle.smtp_dialogue.specs.declared.heard.Heard.TheVariants as reply
-use Rattle.smtp_dialogue.specs.Heard.{heard, one_line_text}
+use Rattle.smtp_reply.specs.declared.reply.Lost.{Lost}
+use Rattle.smtp_reply.specs.declared.reply.Outcome.{Outcome}
+use Rattle.smtp_reply.specs.declared.reply.Outcome.TheVariants as outcome
+use Rattle.smtp_reply.specs.declared.reply.Lost.TheVariants.{BadReply}
+use Rattle.smtp_reply.specs.declared.reader.Heard.{Heard}
+use Rattle.smtp_reply.specs.declared.reader.Heard.TheVariants.{Whole, More, Bad, TooLong}
+use Rattle.smtp_reply.specs.declared.reader.Fed.{Fed}
+use Rattle.smtp_reply.specs.Replies.{heard, code_of, one_line_text}
 use Rattle.smtp_dialogue.specs.Body.{crlf, wire}
 use Rattle.smtp_dialogue.specs.Transcript.{Spoken, Standing, alive, over, waiting, is_alive, ends, says, on_heard, answered, joined_at, followed_by, no_outcome, lost_for, is_positive, reply_of, after_ehlo, after_greeting, greeting, after_reset, resets, refused, after_body, after_data, after_recipient, after_sender, attempted, attempts}
 use Rattle.smtp_dialogue.specs.Speaks.{with_more, IsStable}
-use Rattle.smtp_dialogue.proofs.Replies.{heard_append, whole_fits, one_line_text-append}
+use Rattle.smtp_reply.proofs.HeardLemmas.{heard_stays}
+use Rattle.smtp_reply.proofs.WholeLemmas.{whole_within}
 
 -- a part that says nothing more
 ends_stable : (outcomes : List Outcome) (standing : Standing) → IsStable (λ bytes. ends outcomes standing bytes)
@@ -29,30 +31,32 @@ if_stable true p q s t bytes more e = s bytes more e
 if_stable false p q s t bytes more e = t bytes more e
 
 -- nothing is more than a whole reply
-whole_not_more : (h : Heard) (code used : ℕ) → h ≡ reply.Whole code used → h ≡ reply.More → ⊥
-whole_not_more h code used e f = cc
-
-on_heard_at : (next : ℕ → List ℕ → List ℕ → Spoken) (lost : Lost → List Outcome) (bytes : List ℕ) (h : Heard) → heard bytes ≡ h → answered next lost bytes ≡ on_heard next lost h bytes
-on_heard_at next lost bytes h e = ap (λ (h : Heard). on_heard next lost h bytes) e
+whole_not_more : (h : Heard) → h ≡ Whole → h ≡ More → ⊥
+whole_not_more h e f = cc
 
 -- a whole reply, and what stands behind it with more
-pub answered_whole : (next : ℕ → List ℕ → List ℕ → Spoken) (lost : Lost → List Outcome) (bytes more : List ℕ) (code used : ℕ) → heard bytes ≡ reply.Whole code used → answered next lost (bytes ++ more) ≡ next code (one_line_text code used bytes) (drop used bytes ++ more)
-answered_whole next lost bytes more code used e =
-    let fits = whole_fits bytes code used e in
-    on_heard_at next lost (bytes ++ more) (reply.Whole code used) (heard_append bytes more (whole_not_more (heard bytes) code used e) ∙ e)
-    ∙ ap₂ (λ (text rest : List ℕ). next code text rest) (one_line_text-append code used bytes more fits.1) (drop-append-le used bytes more fits.1)
+pub answered_whole : (next : ℕ → List ℕ → List ℕ → Spoken) (lost : Lost → List Outcome) (bytes more : List ℕ) → (heard bytes).what ≡ Whole
+    → answered next lost (bytes ++ more) ≡ next (code_of (take (heard bytes).used bytes)) (one_line_text (take (heard bytes).used bytes)) (drop (heard bytes).used bytes ++ more)
+answered_whole next lost bytes more e =
+    let used = (heard bytes).used in
+    let within = whole_within bytes e in
+    ap (λ (f : Fed). on_heard next lost f.what f.used (bytes ++ more)) (heard_stays bytes more (whole_not_more (heard bytes).what e))
+    ∙ ap (λ (h : Heard). on_heard next lost h used (bytes ++ more)) e
+    ∙ ap₂ (λ (reply rest : List ℕ). next (code_of reply) (one_line_text reply) rest) (take-append-le used bytes more within) (drop-append-le used bytes more within)
 
 answered_by : (next : ℕ → List ℕ → List ℕ → Spoken) (lost : Lost → List Outcome) → ((code : ℕ) (text : List ℕ) → IsStable (next code text))
-    → (bytes more : List ℕ) (h : Heard) → heard bytes ≡ h → is_alive (on_heard next lost h bytes).standing ≡ true → answered next lost (bytes ++ more) ≡ with_more more (on_heard next lost h bytes)
-answered_by next lost s bytes more (reply.Whole code used) e l =
-    answered_whole next lost bytes more code used e ∙ s code (one_line_text code used bytes) (drop used bytes) more l
-answered_by next lost s bytes more reply.More e l = absurd (false≢true l)
-answered_by next lost s bytes more (reply.Bad at) e l = absurd (false≢true l)
-answered_by next lost s bytes more reply.TooLong e l = absurd (false≢true l)
+    → (bytes more : List ℕ) (h : Heard) → (heard bytes).what ≡ h → is_alive (on_heard next lost h (heard bytes).used bytes).standing ≡ true
+    → answered next lost (bytes ++ more) ≡ with_more more (on_heard next lost h (heard bytes).used bytes)
+answered_by next lost s bytes more Whole e l =
+    let reply = take (heard bytes).used bytes in
+    answered_whole next lost bytes more e ∙ s (code_of reply) (one_line_text reply) (drop (heard bytes).used bytes) more l
+answered_by next lost s bytes more More e l = absurd (false≢true l)
+answered_by next lost s bytes more (Bad at) e l = absurd (false≢true l)
+answered_by next lost s bytes more TooLong e l = absurd (false≢true l)
 
 -- a reply, and what goes on behind it
 answered_stable : (next : ℕ → List ℕ → List ℕ → Spoken) (lost : Lost → List Outcome) → ((code : ℕ) (text : List ℕ) → IsStable (next code text)) → IsStable (answered next lost)
-answered_stable next lost s bytes more l = answered_by next lost s bytes more (heard bytes) refl l
+answered_stable next lost s bytes more l = answered_by next lost s bytes more (heard bytes).what refl l
 
 joined_stable : (standing : Standing) (first : Spoken) (next : List ℕ → Spoken) → IsStable next → (more : List ℕ) → is_alive (joined_at standing first next).standing ≡ true → first.standing ≡ standing
     → joined_at standing (with_more more first) next ≡ with_more more (joined_at standing first next)

@@ -1,4 +1,4 @@
-pub mod Heard
+pub mod Holding
 pub mod Body
 pub mod Transcript
 pub mod Speaks

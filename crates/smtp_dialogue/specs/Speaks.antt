@@ -1,8 +1,9 @@
 -- What a call of the dialogue does, by the part of the transcript that it stands for.
-use Rattle.std.specs.Prelude.{◌≡◌, ℕ, ◌≤◌, ◌⊎◌, List, ◌++◌, Bool, true, false, Option}
+use Rattle.std.specs.Prelude.{◌≡◌, ℕ, ◌≤◌, ◌⊎◌, List, ◌++◌, codes, Bool, true, false, Option}
 use Rattle.kumo_base.specs.Causes.{Rose}
 use Rattle.kumo_outside.specs.Told.{extended, TakesFront, TakesProperFront}
-use Rattle.kumo_outside.specs.declared.reply.Outcome.{Outcome}
+use Rattle.smtp_reply.specs.declared.reply.Outcome.{Outcome}
+use Rattle.smtp_dialogue.specs.Body.{crlf}
 use Rattle.smtp_dialogue.specs.Transcript.{Spoken, waiting, is_alive}
 
 -- a link and the bytes that were got over it and not yet read
@@ -24,15 +25,21 @@ pub record IsWhole (t : Spoken) (old new : Side) (outcomes : List Outcome) (is_l
   pub left : is_left_alive ≡ true → new.unread ≡ t.rest
   pub waited : t.standing ≡ waiting → new.ended ≡ true
 
--- the link failed on the way: something was not sent, or a reply that was due is not whole. What was decided before
--- stays decided; else the outcomes are those of a fault.
+-- the last words of the part are RSET, and all before them was sent
+pub record IsCutAtReset (t : Spoken) (old new : Side) : Type 0 where
+  pub before : List ℕ
+  pub last : t.sent ≡ before ++ (codes "RSET" ++ crlf)
+  pub sent_before : TakesFront (extended old.sent before) new.sent (codes "RSET" ++ crlf)
+
+-- the link failed on the way: something was not sent, or a reply that was due is not whole. The outcomes are those of a
+-- fault; what was decided before RSET stays decided.
 pub record IsCutShort (t : Spoken) (old new : Side) (at_fault outcomes : List Outcome) (is_left_alive : Bool) : Type 0 where
   pub rose : Rose old.faults new.faults
   pub alive_is : is_left_alive ≡ false
   pub not_ended : new.ended ≡ false
   pub front : TakesFront old.sent new.sent t.sent
   pub short : (t.standing ≡ waiting) ⊎ TakesProperFront old.sent new.sent t.sent
-  pub outcomes_are : (outcomes ≡ at_fault) ⊎ (outcomes ≡ t.outcomes)
+  pub outcomes_are : (outcomes ≡ at_fault) ⊎ ((outcomes ≡ t.outcomes) × IsCutAtReset t old new)
 
 -- the bytes that came in the call, whatever pieces they came in, make the part of the transcript what it is
 pub record Speaks (part : List ℕ → Spoken) (old new : Side) (at_fault outcomes : List Outcome) (is_left_alive : Bool) : Type 0 where

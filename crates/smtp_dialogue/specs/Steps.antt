@@ -1,13 +1,12 @@
 -- What the inner steps of the dialogue do: sending, listening, asking, and one try of a message.
-use Rattle.std.specs.Prelude.{◌≡◌, ℕ, ◌≤◌, ◌⊎◌, List, ◌++◌, drop, Bool, true, false, Option, Result, Ok, Err}
+use Rattle.std.specs.Prelude.{◌≡◌, ℕ, ◌≤◌, ◌⊎◌, List, ◌++◌, take, drop, Bool, true, false, Option, Result, Ok, Err}
 use Rattle.kumo_base.specs.Causes.{Rose}
 use Rattle.kumo_outside.specs.Told.{extended, TakesProperFront}
-use Rattle.kumo_outside.specs.declared.reply.Lost.{Lost}
-use Rattle.kumo_outside.specs.declared.reply.Lost.TheVariants.{LinkFault, Ended, BadReply, TooLong}
-use Rattle.smtp_dialogue.specs.declared.heard.Heard.{Heard}
-use Rattle.smtp_dialogue.specs.declared.heard.Heard.TheVariants as reply
-use Rattle.smtp_dialogue.specs.declared.listen.Front.{Front}
-use Rattle.smtp_dialogue.specs.Heard.{heard, one_line_text}
+use Rattle.smtp_reply.specs.declared.reply.Lost.{Lost}
+use Rattle.smtp_reply.specs.declared.reply.Lost.TheVariants.{LinkFault, Ended, BadReply, TooLong}
+use Rattle.smtp_reply.specs.declared.reader.Heard.TheVariants.{Whole, More, Bad}
+use Rattle.smtp_reply.specs.declared.reader.Heard.TheVariants as heard_as
+use Rattle.smtp_reply.specs.Replies.{heard}
 use Rattle.smtp_dialogue.specs.Speaks.{Side}
 
 -- the bytes were sent whole, and nothing was got
@@ -39,51 +38,38 @@ IsCutOff Ended old new = new.ended ≡ true
 IsCutOff BadReply old new = ⊥
 IsCutOff TooLong old new = ⊥
 
+-- the bytes begin with this reply, and these are left behind it
+pub record IsReply (bytes reply left : List ℕ) : Type 0 where
+  pub whole : (heard bytes).what ≡ Whole
+  pub reply_is : reply ≡ take (heard bytes).used bytes
+  pub left_is : left ≡ drop (heard bytes).used bytes
+
 -- the reply that the bytes begin with, or why they begin with none
-abbrev pub IsFound : Result Front Lost → Heard → Side → Side → Type 0
-IsFound (Ok front) h old new = h ≡ reply.Whole front.code front.used
-IsFound (Err LinkFault) h old new = (h ≡ reply.More) × Rose old.faults new.faults × (new.ended ≡ false)
-IsFound (Err Ended) h old new = (h ≡ reply.More) × (new.ended ≡ true)
-IsFound (Err BadReply) h old new = (at : ℕ) × (h ≡ reply.Bad at)
-IsFound (Err TooLong) h old new = h ≡ reply.TooLong
-
--- bytes came until what is unread begins with a reply, or with none
-pub record Listens (old new : Side) (result : Result Front Lost) : Type 0 where
-  pub gets : Gets old new
-  pub found : IsFound result (heard new.unread) old new
-
--- the bytes begin with a reply of this code and text, and these are left behind it
-pub record IsReply (bytes : List ℕ) (code : ℕ) (text left : List ℕ) : Type 0 where
-  pub used : ℕ
-  pub heard_is : heard bytes ≡ reply.Whole code used
-  pub text_is : text ≡ one_line_text code used bytes
-  pub left_is : left ≡ drop used bytes
-
-abbrev pub IsAnswer : Result ℕ Lost → List ℕ → List ℕ → Side → Side → Type 0
-IsAnswer (Ok code) bytes text old new = IsReply bytes code text new.unread
-IsAnswer (Err LinkFault) bytes text old new = (heard bytes ≡ reply.More) × Rose old.faults new.faults × (new.ended ≡ false)
-IsAnswer (Err Ended) bytes text old new = (heard bytes ≡ reply.More) × (new.ended ≡ true)
-IsAnswer (Err BadReply) bytes text old new = (at : ℕ) × (heard bytes ≡ reply.Bad at)
-IsAnswer (Err TooLong) bytes text old new = heard bytes ≡ reply.TooLong
+abbrev pub IsAnswer : {T : Type 0} → Result T Lost → List ℕ → List ℕ → Side → Side → Type 0
+IsAnswer (Ok x) bytes reply old new = IsReply bytes reply new.unread
+IsAnswer (Err LinkFault) bytes reply old new = ((heard bytes).what ≡ More) × Rose old.faults new.faults × (new.ended ≡ false)
+IsAnswer (Err Ended) bytes reply old new = ((heard bytes).what ≡ More) × (new.ended ≡ true)
+IsAnswer (Err BadReply) bytes reply old new = (at : ℕ) × ((heard bytes).what ≡ Bad at)
+IsAnswer (Err TooLong) bytes reply old new = (heard bytes).what ≡ heard_as.TooLong
 
 -- a reply was read, or why none was
-pub record Hears (old new : Side) (text : List ℕ) (result : Result ℕ Lost) : Type 0 where
+pub record Hears {T : Type 0} (old new : Side) (reply : List ℕ) (result : Result T Lost) : Type 0 where
   pub more : List ℕ
   pub grows : new.got ≡ extended old.got more
   pub sent_is : new.sent ≡ old.sent
   pub later : old.faults ≤ new.faults
-  pub answer : IsAnswer result (old.unread ++ more) text old new
+  pub answer : IsAnswer result (old.unread ++ more) reply old new
 
 -- the words were sent, and then a reply was read
-pub record AsksAndHears (words : List ℕ) (old new : Side) (text : List ℕ) (result : Result ℕ Lost) : Type 0 where
+pub record AsksAndHears {T : Type 0} (words : List ℕ) (old new : Side) (reply : List ℕ) (result : Result T Lost) : Type 0 where
   pub mid : Side
   pub same : mid.unread ≡ old.unread
   pub says_them : Sends words old.sent mid.sent old.got mid.got old.faults mid.faults
-  pub hears : Hears mid new text result
+  pub hears : Hears mid new reply result
 
-pub record FailsToAsk (words : List ℕ) (old new : Side) (result : Result ℕ Lost) : Type 0 where
+pub record FailsToAsk {T : Type 0} (words : List ℕ) (old new : Side) (result : Result T Lost) : Type 0 where
   pub result_is : result ≡ Err LinkFault
   pub fails : FailsToSend words old.sent new.sent old.got new.got new.ended old.faults new.faults
 
-abbrev pub Asks : List ℕ → Side → Side → List ℕ → Result ℕ Lost → Type 0
-Asks words old new text result = FailsToAsk words old new result ⊎ AsksAndHears words old new text result
+abbrev pub Asks : {T : Type 0} → List ℕ → Side → Side → List ℕ → Result T Lost → Type 0
+Asks words old new reply result = FailsToAsk words old new result ⊎ AsksAndHears words old new reply result

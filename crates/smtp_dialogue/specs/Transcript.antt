@@ -1,16 +1,17 @@
 -- What a client sends and what becomes of each message, for given bytes got (RFC 5321 sections 3 and 4.3). Each part of
 -- a session is a function of the bytes that can be read; it stands in the order in which the client speaks.
-use Rattle.std.specs.Prelude.{◌≡◌, ℕ, ◌/◌, ◌==◌, List, [], ◌∷◌, ◌++◌, drop, codes, Bool, true, false, if◌then◌else◌}
+use Rattle.std.specs.Prelude.{◌≡◌, ℕ, ◌/◌, ◌==◌, List, [], ◌∷◌, ◌++◌, take, drop, codes, Bool, true, false, if◌then◌else◌}
 use Rattle.queue_name.specs.declared.message.Message.{Message}
 use Rattle.kumo_outside.specs.declared.session.Session.{Session}
-use Rattle.kumo_outside.specs.declared.reply.Reply.{Reply}
-use Rattle.kumo_outside.specs.declared.reply.Lost.{Lost}
-use Rattle.kumo_outside.specs.declared.reply.Lost.TheVariants.{Ended, BadReply, TooLong}
-use Rattle.kumo_outside.specs.declared.reply.Outcome.{Outcome}
-use Rattle.kumo_outside.specs.declared.reply.Outcome.TheVariants as outcome
-use Rattle.smtp_dialogue.specs.declared.heard.Heard.{Heard}
-use Rattle.smtp_dialogue.specs.declared.heard.Heard.TheVariants as reply
-use Rattle.smtp_dialogue.specs.Heard.{heard, one_line_text}
+use Rattle.smtp_reply.specs.declared.reply.Reply.{Reply}
+use Rattle.smtp_reply.specs.declared.reply.Lost.{Lost}
+use Rattle.smtp_reply.specs.declared.reply.Lost.TheVariants.{Ended, BadReply, TooLong}
+use Rattle.smtp_reply.specs.declared.reply.Outcome.{Outcome}
+use Rattle.smtp_reply.specs.declared.reply.Outcome.TheVariants as outcome
+use Rattle.smtp_reply.specs.declared.reader.Heard.{Heard}
+use Rattle.smtp_reply.specs.declared.reader.Heard.TheVariants.{Whole, More, Bad}
+use Rattle.smtp_reply.specs.declared.reader.Heard.TheVariants as heard_as
+use Rattle.smtp_reply.specs.Replies.{heard, code_of, one_line_text}
 use Rattle.smtp_dialogue.specs.Body.{crlf, wire}
 
 -- how the link stands after a part: it serves further, or it does not, or a reply was due of which the bytes hold no
@@ -42,16 +43,16 @@ ends outcomes standing rest = record { sent = []; outcomes = outcomes; standing 
 abbrev pub says : List ℕ → Spoken → Spoken
 says bytes s = record { sent = bytes ++ s.sent; outcomes = s.outcomes; standing = s.standing; rest = s.rest }
 
--- by what the bytes begin with; where that is no whole reply, `lost` tells the outcomes
-abbrev pub on_heard : (ℕ → List ℕ → List ℕ → Spoken) → (Lost → List Outcome) → Heard → List ℕ → Spoken
-on_heard next lost (reply.Whole code used) bytes = next code (one_line_text code used bytes) (drop used bytes)
-on_heard next lost reply.More bytes = ends (lost Ended) waiting bytes
-on_heard next lost (reply.Bad at) bytes = ends (lost BadReply) over bytes
-on_heard next lost reply.TooLong bytes = ends (lost TooLong) over bytes
+-- by what so many bytes are that these begin with; where that is no whole reply, `lost` tells the outcomes
+abbrev pub on_heard : (ℕ → List ℕ → List ℕ → Spoken) → (Lost → List Outcome) → Heard → ℕ → List ℕ → Spoken
+on_heard next lost Whole used bytes = next (code_of (take used bytes)) (one_line_text (take used bytes)) (drop used bytes)
+on_heard next lost More used bytes = ends (lost Ended) waiting bytes
+on_heard next lost (Bad at) used bytes = ends (lost BadReply) over bytes
+on_heard next lost heard_as.TooLong used bytes = ends (lost TooLong) over bytes
 
 -- a reply is due: `next` goes on with its code, its one-line text and the bytes behind it
 abbrev pub answered : (ℕ → List ℕ → List ℕ → Spoken) → (Lost → List Outcome) → List ℕ → Spoken
-answered next lost bytes = on_heard next lost (heard bytes) bytes
+answered next lost bytes = on_heard next lost (heard bytes).what (heard bytes).used bytes
 
 -- one part and then the next, where the link serves further
 abbrev pub joined_at : Standing → Spoken → (List ℕ → Spoken) → Spoken

@@ -1,11 +1,11 @@
 -- What one try of a message does, by the part of the transcript that it stands for.
 use Rattle.std.specs.Prelude.{◌≡◌, ℕ, List, [], ◌∷◌, Bool, true, false}
 use Rattle.kumo_base.specs.Causes.{Rose}
-use Rattle.kumo_outside.specs.ReplyText.{IsProperOutcome}
-use Rattle.kumo_outside.specs.declared.reply.Reply.{Reply}
-use Rattle.kumo_outside.specs.declared.reply.Outcome.{Outcome}
-use Rattle.kumo_outside.specs.declared.reply.Outcome.TheVariants as outcome
-use Rattle.kumo_outside.specs.declared.reply.Lost.TheVariants.{LinkFault, Ended}
+use Rattle.smtp_reply.specs.ReplyText.{IsProperOutcome}
+use Rattle.smtp_reply.specs.declared.reply.Reply.{Reply}
+use Rattle.smtp_reply.specs.declared.reply.Outcome.{Outcome}
+use Rattle.smtp_reply.specs.declared.reply.Outcome.TheVariants as outcome
+use Rattle.smtp_reply.specs.declared.reply.Lost.TheVariants.{LinkFault, Ended}
 use Rattle.smtp_dialogue.specs.declared.delivery.Tried.{Tried}
 use Rattle.smtp_dialogue.specs.Transcript.{Spoken, Standing, alive, over}
 use Rattle.smtp_dialogue.specs.Speaks.{Side, Speaks}

@@ -1,7 +1,8 @@
 //! Sends a command or a body, and reads the reply to it.
-ghost use Rattle.std.specs.Prelude.{◌≡◌, ◌++◌, ℕ, List, [], IfOk};
-ghost use Rattle.kumo_outside.specs.ReplyText.{IsReplyText};
+ghost use Rattle.std.specs.Prelude.{◌≡◌, ◌++◌, ℕ, List, IfOk};
+ghost use Rattle.smtp_reply.specs.Replies.{code_of};
 ghost use Rattle.smtp_dialogue.specs.Body.{wire};
+ghost use Rattle.smtp_dialogue.specs.Holding.{Holds};
 ghost use Rattle.smtp_dialogue.specs.Speaks.{side};
 ghost use Rattle.smtp_dialogue.specs.Steps.{Asks};
 
@@ -9,27 +10,26 @@ use crate::body::send_body;
 use crate::listen::{take_code, take_reply};
 use crate::scratch::Scratch;
 use crate::send::send_three;
-use kumo_base::Room;
-use kumo_outside::{Link, Lost};
+use kumo_outside::Link;
+use smtp_reply::{Lost, ReplyReader};
 
-/// Sends a command, and reads the reply to it and its text.
+/// Sends a command, and reads the reply to it, which the reader then holds.
 pub(crate) fn ask<L: Link>(
     link: &mut L,
     verb: &str,
     argument: &str,
     end: &str,
     scratch: &mut Scratch,
-    room: &mut Room,
-) -> Result<u16, Lost>
-    requires { room.old ≡ [] }
+    reader: &mut ReplyReader,
+) -> Result<(), Lost>
     ensures opening { L.opening link.new ≡ L.opening link.old }
-    ensures asks { Asks (verb.now ++ argument.now ++ end.now)
+    ensures asks { (reply : List ℕ) × Asks (verb.now ++ argument.now ++ end.now)
         (side (L.sent link.old) (L.got link.old) (L.ended link.old) (L.faults link.old) scratch.old)
-        (side (L.sent link.new) (L.got link.new) (L.ended link.new) (L.faults link.new) scratch.new) room.new result }
-    ensures text { IfOk result (λ code. IsReplyText code room.new) }
+        (side (L.sent link.new) (L.got link.new) (L.ended link.new) (L.faults link.new) scratch.new) reply result
+        × IfOk result (λ _. Holds reader.new reply) }
 {
     match send_three(link, verb.as_bytes(), argument.as_bytes(), end.as_bytes()) {
-        Ok(()) => take_reply(link, scratch, room),
+        Ok(()) => take_reply(link, scratch, reader),
         Err(_) => Err(Lost::LinkFault),
     }
 }
@@ -43,9 +43,10 @@ pub(crate) fn ask_code<L: Link>(
     scratch: &mut Scratch,
 ) -> Result<u16, Lost>
     ensures opening { L.opening link.new ≡ L.opening link.old }
-    ensures asks { (text : List ℕ) × Asks (verb.now ++ argument.now ++ end.now)
+    ensures asks { (reply : List ℕ) × Asks (verb.now ++ argument.now ++ end.now)
         (side (L.sent link.old) (L.got link.old) (L.ended link.old) (L.faults link.old) scratch.old)
-        (side (L.sent link.new) (L.got link.new) (L.ended link.new) (L.faults link.new) scratch.new) text result }
+        (side (L.sent link.new) (L.got link.new) (L.ended link.new) (L.faults link.new) scratch.new) reply result
+        × IfOk result (λ code. code ≡ code_of reply) }
 {
     match send_three(link, verb.as_bytes(), argument.as_bytes(), end.as_bytes()) {
         Ok(()) => take_code(link, scratch),
@@ -53,22 +54,21 @@ pub(crate) fn ask_code<L: Link>(
     }
 }
 
-/// Sends a body, and reads the reply to it and its text.
+/// Sends a body, and reads the reply to it, which the reader then holds.
 pub(crate) fn ask_body<L: Link>(
     link: &mut L,
     body: &str,
     scratch: &mut Scratch,
-    room: &mut Room,
-) -> Result<u16, Lost>
-    requires { room.old ≡ [] }
+    reader: &mut ReplyReader,
+) -> Result<(), Lost>
     ensures opening { L.opening link.new ≡ L.opening link.old }
-    ensures asks { Asks (wire body.now)
+    ensures asks { (reply : List ℕ) × Asks (wire body.now)
         (side (L.sent link.old) (L.got link.old) (L.ended link.old) (L.faults link.old) scratch.old)
-        (side (L.sent link.new) (L.got link.new) (L.ended link.new) (L.faults link.new) scratch.new) room.new result }
-    ensures text { IfOk result (λ code. IsReplyText code room.new) }
+        (side (L.sent link.new) (L.got link.new) (L.ended link.new) (L.faults link.new) scratch.new) reply result
+        × IfOk result (λ _. Holds reader.new reply) }
 {
     match send_body(link, body) {
-        Ok(()) => take_reply(link, scratch, room),
+        Ok(()) => take_reply(link, scratch, reader),
         Err(_) => Err(Lost::LinkFault),
     }
 }

@@ -1,10 +1,13 @@
 //! One attempt to deliver a message over a link that greeted: MAIL, RCPT, DATA and the body, and RSET after a refusal.
 //!
-//! Each function is one stage: it stands where a reply was read, and goes on with its code and text.
+//! Each function is one stage: it stands where a reply was read, and goes on with its code. The reply that decides is
+//! taken from the reader.
 ghost use Rattle.std.specs.Prelude.{◌≡◌, ◌/◌, ◌==◌, ℕ, List, [], ◌∷◌, true, false, Bool};
 ghost use Rattle.kumo_base.specs.Causes.{Rose};
-ghost use Rattle.kumo_outside.specs.ReplyText.{IsReplyText, IsProperOutcome};
-ghost use Rattle.kumo_outside.specs.declared.reply.Lost.TheVariants.{LinkFault, Ended};
+ghost use Rattle.smtp_reply.specs.Replies.{code_of, one_line_text};
+ghost use Rattle.smtp_reply.specs.ReplyText.{IsReplyText, IsProperOutcome};
+ghost use Rattle.smtp_reply.specs.declared.reply.Lost.TheVariants.{LinkFault, Ended};
+ghost use Rattle.smtp_dialogue.specs.Holding.{Holds, HoldsReply};
 ghost use Rattle.smtp_dialogue.specs.Transcript.{ends, is_positive, resets, refused, after_body, after_data, after_recipient, after_sender, attempted};
 ghost use Rattle.smtp_dialogue.specs.Speaks.{side, Speaks};
 ghost use Rattle.smtp_dialogue.specs.Tries.{Tries, IsDecided, standing_of};
@@ -12,7 +15,8 @@ ghost use Rattle.smtp_dialogue.specs.Tries.{Tries, IsDecided, standing_of};
 use crate::ask::{ask, ask_body, ask_code};
 use crate::scratch::Scratch;
 use kumo_base::Room;
-use kumo_outside::{Link, Lost, Outcome, Reply};
+use kumo_outside::Link;
+use smtp_reply::{Lost, Outcome, Reply, ReplyReader};
 
 /// What came of one attempt.
 #[derive(Drop)]
@@ -66,9 +70,9 @@ pub fn attempt<L: Link>(
     ensures delivered { (reply : Reply) → result.outcome ≡ Outcome.Delivered reply → result.alive ≡ true }
     ensures proper { IsProperOutcome result.outcome }
 {
-    let mut room = room;
-    match ask(link, "MAIL FROM:<", sender, ">\r\n", scratch, &mut room) {
-        Ok(code) => after_sender(link, recipient, body, scratch, code, room),
+    let mut reader = ReplyReader::new(room);
+    match ask(link, "MAIL FROM:<", sender, ">\r\n", scratch, &mut reader) {
+        Ok(()) => after_sender(link, recipient, body, scratch, reader),
         Err(why) => Tried::lost(why),
     }
 }
@@ -79,21 +83,19 @@ fn after_sender<L: Link>(
     recipient: &str,
     body: &str,
     scratch: &mut Scratch,
-    code: u16,
-    mut room: Room,
+    mut reader: ReplyReader,
 ) -> Tried
-    requires { IsReplyText code room }
+    requires { HoldsReply reader }
     ensures opening { L.opening link.new ≡ L.opening link.old }
-    ensures tries { Tries (after_sender recipient.now body.now code room)
+    ensures tries { (reply : List ℕ) → Holds reader reply → Tries (after_sender recipient.now body.now (code_of reply) (one_line_text reply))
         (side (L.sent link.old) (L.got link.old) (L.ended link.old) (L.faults link.old) scratch.old)
         (side (L.sent link.new) (L.got link.new) (L.ended link.new) (L.faults link.new) scratch.new) result }
 {
-    if !is_positive(code) {
-        return refused(link, scratch, code, room);
+    if !is_positive(reader.code()) {
+        return refused(link, scratch, reader.take());
     }
-    room.clear();
-    match ask(link, "RCPT TO:<", recipient, ">\r\n", scratch, &mut room) {
-        Ok(code) => after_recipient(link, body, scratch, code, room),
+    match ask(link, "RCPT TO:<", recipient, ">\r\n", scratch, &mut reader) {
+        Ok(()) => after_recipient(link, body, scratch, reader),
         Err(why) => Tried::lost(why),
     }
 }
@@ -103,21 +105,19 @@ fn after_recipient<L: Link>(
     link: &mut L,
     body: &str,
     scratch: &mut Scratch,
-    code: u16,
-    mut room: Room,
+    mut reader: ReplyReader,
 ) -> Tried
-    requires { IsReplyText code room }
+    requires { HoldsReply reader }
     ensures opening { L.opening link.new ≡ L.opening link.old }
-    ensures tries { Tries (after_recipient body.now code room)
+    ensures tries { (reply : List ℕ) → Holds reader reply → Tries (after_recipient body.now (code_of reply) (one_line_text reply))
         (side (L.sent link.old) (L.got link.old) (L.ended link.old) (L.faults link.old) scratch.old)
         (side (L.sent link.new) (L.got link.new) (L.ended link.new) (L.faults link.new) scratch.new) result }
 {
-    if !is_positive(code) {
-        return refused(link, scratch, code, room);
+    if !is_positive(reader.code()) {
+        return refused(link, scratch, reader.take());
     }
-    room.clear();
-    match ask(link, "DATA", "", "\r\n", scratch, &mut room) {
-        Ok(code) => after_data(link, body, scratch, code, room),
+    match ask(link, "DATA", "", "\r\n", scratch, &mut reader) {
+        Ok(()) => after_data(link, body, scratch, reader),
         Err(why) => Tried::lost(why),
     }
 }
@@ -127,44 +127,39 @@ fn after_data<L: Link>(
     link: &mut L,
     body: &str,
     scratch: &mut Scratch,
-    code: u16,
-    mut room: Room,
+    mut reader: ReplyReader,
 ) -> Tried
-    requires { IsReplyText code room }
+    requires { HoldsReply reader }
     ensures opening { L.opening link.new ≡ L.opening link.old }
-    ensures tries { Tries (after_data body.now code room)
+    ensures tries { (reply : List ℕ) → Holds reader reply → Tries (after_data body.now (code_of reply) (one_line_text reply))
         (side (L.sent link.old) (L.got link.old) (L.ended link.old) (L.faults link.old) scratch.old)
         (side (L.sent link.new) (L.got link.new) (L.ended link.new) (L.faults link.new) scratch.new) result }
 {
-    if code != 354 {
-        return refused(link, scratch, code, room);
+    if reader.code() != 354 {
+        return refused(link, scratch, reader.take());
     }
-    room.clear();
-    match ask_body(link, body, scratch, &mut room) {
-        Ok(code) => after_body(code, room),
+    match ask_body(link, body, scratch, &mut reader) {
+        Ok(()) => after_body(reader.take()),
         Err(why) => Tried::lost(why),
     }
 }
 
 /// The reply to the body is read, and decides.
-fn after_body(code: u16, room: Room) -> Tried
-    requires { IsReplyText code room }
-    ensures ends { (bytes : List ℕ) → after_body code room bytes ≡ ends (result.outcome ∷ []) (standing_of result.alive) bytes }
+fn after_body(reply: Reply) -> Tried
+    requires { IsReplyText reply.code reply.text }
+    ensures ends { (bytes : List ℕ) → after_body reply.code reply.text bytes ≡ ends (result.outcome ∷ []) (standing_of result.alive) bytes }
     ensures decided { IsDecided result.outcome }
     ensures delivered { (reply : Reply) → result.outcome ≡ Outcome.Delivered reply → result.alive ≡ true }
 {
-    let reply = Reply {
-        code,
-        text: room.into_text(),
-    };
-    match code / 100 {
+    let alive = reply.code != 421;
+    match reply.code / 100 {
         2 => Tried {
             outcome: Outcome::Delivered(reply),
             alive: true,
         },
         4 => Tried {
             outcome: Outcome::Transient(reply),
-            alive: code != 421,
+            alive,
         },
         5 => Tried {
             outcome: Outcome::Permanent(reply),
@@ -175,17 +170,14 @@ fn after_body(code: u16, room: Room) -> Tried
 }
 
 /// A command before the body was not granted.
-fn refused<L: Link>(link: &mut L, scratch: &mut Scratch, code: u16, room: Room) -> Tried
-    requires { IsReplyText code room }
+fn refused<L: Link>(link: &mut L, scratch: &mut Scratch, reply: Reply) -> Tried
+    requires { IsReplyText reply.code reply.text }
     ensures opening { L.opening link.new ≡ L.opening link.old }
-    ensures tries { Tries (refused code room)
+    ensures tries { Tries (refused reply.code reply.text)
         (side (L.sent link.old) (L.got link.old) (L.ended link.old) (L.faults link.old) scratch.old)
         (side (L.sent link.new) (L.got link.new) (L.ended link.new) (L.faults link.new) scratch.new) result }
 {
-    let reply = Reply {
-        code,
-        text: room.into_text(),
-    };
+    let code = reply.code;
     match code / 100 {
         4 => reset(link, scratch, code, Outcome::Transient(reply)),
         5 => reset(link, scratch, code, Outcome::Permanent(reply)),
@@ -198,6 +190,7 @@ fn reset<L: Link>(link: &mut L, scratch: &mut Scratch, code: u16, decided: Outco
     requires decided { IsDecided decided }
     requires no_delivery { (reply : Reply) → decided ≡ Outcome.Delivered reply → ⊥ }
     ensures opening { L.opening link.new ≡ L.opening link.old }
+    ensures kept { result.outcome ≡ decided }
     ensures tries { Tries (resets decided code)
         (side (L.sent link.old) (L.got link.old) (L.ended link.old) (L.faults link.old) scratch.old)
         (side (L.sent link.new) (L.got link.new) (L.ended link.new) (L.faults link.new) scratch.new) result }

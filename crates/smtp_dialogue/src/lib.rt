@@ -8,11 +8,9 @@ mod ask;
 mod body;
 mod delivery;
 mod greeting;
-mod heard;
 pub mod laws;
 mod listen;
 mod parting;
-mod reply_text;
 mod scratch;
 mod send;
 #[cfg(test)]

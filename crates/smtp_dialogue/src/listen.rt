@@ -1,97 +1,94 @@
 //! Reads one reply from a link, in whatever pieces it comes.
-ghost use Rattle.std.specs.Prelude.{◌≡◌, ◌<◌, ◌≤◌, ◌+◌, ◌++◌, ℕ, List, [], length, take, MatchResult, IfOk};
-ghost use Rattle.kumo_outside.specs.ReplyText.{IsReplyText};
+ghost use Rattle.std.specs.Prelude.{◌≡◌, ◌<◌, ◌≤◌, ◌+◌, ℕ, List, [], length, MatchResult, IfOk};
+ghost use Rattle.smtp_reply.specs.Replies.{code_of};
+ghost use Rattle.smtp_dialogue.specs.Holding.{Holds};
 ghost use Rattle.smtp_dialogue.specs.Speaks.{side};
-ghost use Rattle.smtp_dialogue.specs.Steps.{Gets, IsCutOff, Listens, Hears};
+ghost use Rattle.smtp_dialogue.specs.Steps.{Gets, IsCutOff, Hears};
 
-use crate::heard::{Heard, REPLY_LIMIT, hear};
-use crate::reply_text::write_text;
-use crate::scratch::Scratch;
-use kumo_base::Room;
-use kumo_outside::{Link, Lost};
+use crate::scratch::{Scratch, Unread};
+use kumo_outside::Link;
+use smtp_reply::{Heard, Lost, REPLY_LIMIT, ReplyReader};
 
-/// The reply that the bytes begin with.
-#[derive(Clone, Copy, Debug, PartialEq, Eq)]
-pub(crate) struct Front {
-    /// Its code.
-    pub(crate) code: u16,
-    /// The bytes that it takes.
-    pub(crate) used: usize,
-}
-
-/// Receives the next bytes. `Lost` is `LinkFault` or `Ended`, and then none came.
-fn receive<L: Link>(link: &mut L, scratch: &mut Scratch) -> Result<(), Lost>
-    requires { length scratch.old < 4096 }
+/// Receives the next bytes, at most so many. `Lost` is `LinkFault` or `Ended`, and then none came.
+fn receive<L: Link>(link: &mut L, unread: &mut Unread, most: usize) -> Result<(), Lost>
+    requires some { 0 < most }
+    requires room { length unread.old + most ≤ 4096 }
     ensures opening { L.opening link.new ≡ L.opening link.old }
     ensures gets { Gets
-        (side (L.sent link.old) (L.got link.old) (L.ended link.old) (L.faults link.old) scratch.old)
-        (side (L.sent link.new) (L.got link.new) (L.ended link.new) (L.faults link.new) scratch.new) }
+        (side (L.sent link.old) (L.got link.old) (L.ended link.old) (L.faults link.old) unread.old)
+        (side (L.sent link.new) (L.got link.new) (L.ended link.new) (L.faults link.new) unread.new) }
     ensures came { MatchResult result
-        (λ _. (length scratch.old < length scratch.new) × (length scratch.new ≤ 4096))
-        (λ why. (scratch.new ≡ scratch.old) × IsCutOff why
-        (side (L.sent link.old) (L.got link.old) (L.ended link.old) (L.faults link.old) scratch.old)
-        (side (L.sent link.new) (L.got link.new) (L.ended link.new) (L.faults link.new) scratch.new)) }
+        (λ _. length unread.old < length unread.new)
+        (λ why. (unread.new ≡ unread.old) × IsCutOff why
+        (side (L.sent link.old) (L.got link.old) (L.ended link.old) (L.faults link.old) unread.old)
+        (side (L.sent link.new) (L.got link.new) (L.ended link.new) (L.faults link.new) unread.new)) }
 {
     let mut buffer = [0; REPLY_LIMIT];
-    let (free, _) = buffer.split_at_mut(REPLY_LIMIT - scratch.as_slice().len());
+    let (free, _) = buffer.split_at_mut(most);
     match link.recv(free) {
         Ok(0) => Err(Lost::Ended),
         Ok(count) => {
             let (piece, _) = free.split_at(count);
-            scratch.append(piece);
+            unread.append(piece);
             Ok(())
         }
         Err(_) => Err(Lost::LinkFault),
     }
 }
 
-/// Receives until the unread bytes begin with a reply or can begin with none.
-#[tactic(auto, using(crate::proofs::Replies::whole_fits))]
-fn listen<L: Link>(link: &mut L, scratch: &mut Scratch) -> Result<Front, Lost>
+/// Reads one reply, which the reader then holds. The bytes behind it stay unread.
+fn read_reply<L: Link>(
+    link: &mut L,
+    unread: &mut Unread,
+    reader: &mut ReplyReader,
+) -> Result<(), Lost>
     ensures opening { L.opening link.new ≡ L.opening link.old }
-    ensures listens { Listens
-        (side (L.sent link.old) (L.got link.old) (L.ended link.old) (L.faults link.old) scratch.old)
-        (side (L.sent link.new) (L.got link.new) (L.ended link.new) (L.faults link.new) scratch.new) result }
-    ensures within { IfOk result (λ front. (4 ≤ front.used) × (front.used ≤ length scratch.new) × (front.code < 600)) }
+    ensures hears { (reply : List ℕ) × Hears
+        (side (L.sent link.old) (L.got link.old) (L.ended link.old) (L.faults link.old) unread.old)
+        (side (L.sent link.new) (L.got link.new) (L.ended link.new) (L.faults link.new) unread.new) reply result
+        × IfOk result (λ _. Holds reader.new reply) }
 {
+    reader.restart();
+    // how many bytes the reply may still have
+    let mut left = REPLY_LIMIT;
     loop {
-        match hear(scratch.as_slice()) {
-            Heard::Whole { code, used } => return Ok(Front { code, used }),
-            Heard::More => receive(link, scratch)?,
+        let fed = reader.feed(unread.as_slice());
+        unread.drop_front(fed.used);
+        match fed.what {
+            Heard::Whole => return Ok(()),
             Heard::Bad(_) => return Err(Lost::BadReply),
             Heard::TooLong => return Err(Lost::TooLong),
+            Heard::More => {
+                left -= fed.used;
+                receive(link, unread, left)?;
+            }
         }
     }
 }
 
-/// Reads one reply, and writes its text into the room.
+/// Reads one reply into a reader.
 pub(crate) fn take_reply<L: Link>(
     link: &mut L,
     scratch: &mut Scratch,
-    room: &mut Room,
-) -> Result<u16, Lost>
-    requires { room.old ≡ [] }
+    reader: &mut ReplyReader,
+) -> Result<(), Lost>
     ensures opening { L.opening link.new ≡ L.opening link.old }
-    ensures hears { Hears
+    ensures hears { (reply : List ℕ) × Hears
         (side (L.sent link.old) (L.got link.old) (L.ended link.old) (L.faults link.old) scratch.old)
-        (side (L.sent link.new) (L.got link.new) (L.ended link.new) (L.faults link.new) scratch.new) room.new result }
-    ensures text { IfOk result (λ code. IsReplyText code room.new) }
+        (side (L.sent link.new) (L.got link.new) (L.ended link.new) (L.faults link.new) scratch.new) reply result
+        × IfOk result (λ _. Holds reader.new reply) }
 {
-    let front = listen(link, scratch)?;
-    let (reply, _) = scratch.as_slice().split_at(front.used);
-    write_text(front.code, reply, room);
-    scratch.drop_front(front.used);
-    Ok(front.code)
+    read_reply(link, &mut scratch.unread, reader)
 }
 
 /// Reads one reply of which the code alone is wanted.
 pub(crate) fn take_code<L: Link>(link: &mut L, scratch: &mut Scratch) -> Result<u16, Lost>
     ensures opening { L.opening link.new ≡ L.opening link.old }
-    ensures hears { (text : List ℕ) × Hears
+    ensures hears { (reply : List ℕ) × Hears
         (side (L.sent link.old) (L.got link.old) (L.ended link.old) (L.faults link.old) scratch.old)
-        (side (L.sent link.new) (L.got link.new) (L.ended link.new) (L.faults link.new) scratch.new) text result }
+        (side (L.sent link.new) (L.got link.new) (L.ended link.new) (L.faults link.new) scratch.new) reply result
+        × IfOk result (λ code. code ≡ code_of reply) }
 {
-    let front = listen(link, scratch)?;
-    scratch.drop_front(front.used);
-    Ok(front.code)
+    read_reply(link, &mut scratch.unread, &mut scratch.reader)?;
+    Ok(scratch.reader.code())
 }

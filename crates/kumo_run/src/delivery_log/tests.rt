@@ -2,7 +2,8 @@
 use super::{entry_line, write_log};
 use history_core::{Cause, Entry, Event, History, Next};
 use kumo_base::{Memory, Text};
-use kumo_outside::{Lost, MemSink, Outcome, Reply};
+use kumo_outside::MemSink;
+use smtp_reply::{Lost, Outcome, Reply};
 use queue_name::{Message, QueueName};
 use std::alloc::Global;
 use std::process::Abort;

@@ -1,9 +1,9 @@
 use Rattle.std.proofs.Common.{Option, ◌≡◌, ℕ, List, [], ◌∷◌, Result, Ok, Err, Bool, true, false, not, refl}
 use Rattle.kumo_outside.specs.Sessions.{Opening}
 use Rattle.queue_name.specs.declared.message.Message.{Message}
-use Rattle.kumo_outside.specs.declared.reply.Outcome.{Outcome}
-use Rattle.kumo_outside.specs.declared.reply.Outcome.TheVariants.{Lost}
-use Rattle.kumo_outside.specs.declared.reply.Lost.TheVariants.{LinkFault}
+use Rattle.smtp_reply.specs.declared.reply.Outcome.{Outcome}
+use Rattle.smtp_reply.specs.declared.reply.Outcome.TheVariants.{Lost}
+use Rattle.smtp_reply.specs.declared.reply.Lost.TheVariants.{LinkFault}
 use Rattle.kumo_run.specs.declared.dispatcher.WorkFault.{WorkFault}
 use Rattle.kumo_run.specs.declared.dispatcher.WorkFault.TheVariants.{NotOpened, NotDelivered, Memory}
 use Rattle.history_core.specs.declared.entry.Entry.{Entry}

@@ -1,4 +1,5 @@
-use Rattle.std.proofs.Common.{◌≡◌, true, false, []}
+use Rattle.std.proofs.Common.{◌≡◌, ℕ, true, false, [], ap, sym, ◌∙◌}
+use Rattle.smtp_reply.specs.Replies.{code_of, one_line_text}
 use Rattle.smtp_dialogue.specs.Transcript.{is_positive, no_outcome, after_ehlo, after_greeting}
 use Rattle.smtp_dialogue.proofs.Parts.{speaks_ends, asked_then, asked_none}
 use Rattle.smtp_dialogue.proofs.Trying.{hello_says, greeting_refused, answers_none}
@@ -13,7 +14,8 @@ pub returns-in-Ok-clause-spoken : goal.returns-in-Ok-clause-spoken
 returns-in-Ok-clause-spoken g c =
     let e : is_positive c.args.code ≡ true = cc in
     λ text. asked_then (after_greeting c.args.ehlo.now c.args.code text) after_ehlo no_outcome (hello_says c.args.ehlo.now c.args.code text e) c.in-Ok.ensures.asks.1
-    (speaks_ends (after_ehlo c.in-Ok.code c.in-Ok.ensures.asks.0) _ [] [] _ (c.ready_at.ensures c.in-Ok.ensures.asks.0))
+    (speaks_ends (after_ehlo (code_of c.in-Ok.ensures.asks.0) (one_line_text c.in-Ok.ensures.asks.0)) _ [] [] _
+    (λ bytes. ap (λ (code : ℕ). after_ehlo code (one_line_text c.in-Ok.ensures.asks.0) bytes) (sym c.in-Ok.ensures.asks.2) ∙ c.ready_at.ensures (one_line_text c.in-Ok.ensures.asks.0) bytes))
 
 pub returns-in-Err-clause-spoken : goal.returns-in-Err-clause-spoken
 returns-in-Err-clause-spoken g c =

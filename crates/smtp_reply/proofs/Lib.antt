@@ -1,0 +1,12 @@
+pub mod LineLemmas
+pub mod GrammarLemmas
+pub mod TextLemmas
+pub mod HeardLemmas
+pub mod FrontLemmas
+pub mod CutLemmas
+pub mod PlaceLemmas
+pub mod StepLemmas
+pub mod CodeLemmas
+pub mod ReadLemmas
+pub mod WholeLemmas
+pub mod FoundLemmas

@@ -1,0 +1,4 @@
+pub mod ReplyText
+pub mod Grammar
+pub mod Replies
+pub mod Reading
