@@ -4,3 +4,5 @@ mod SessionLemmas
 pub mod LogLines
 pub mod LogWriting
 mod MailLemmas
+mod PolicyLemmas
+mod SortedLines

@@ -1,5 +1,5 @@
 -- How a call of the program ends, by its status.
-use Rattle.std.specs.Prelude.{◌≡◌, ℕ, ◌≤◌, ◌⊎◌, List, [], ◌∷◌, Option, Some, None, option_and_then, IfSome, IsSome}
+use Rattle.std.specs.Prelude.{◌≡◌, ℕ, ◌≤◌, ◌⊎◌, List, [], ◌∷◌, Option, Some, None, IfSome}
 use Rattle.kumo_base.specs.Causes.{Rose}
 use Rattle.kumo_outside.specs.Told.{extended, TakesFront}
 use Rattle.queue_name.specs.declared.message.Message.{Message}
@@ -13,7 +13,8 @@ use Rattle.kumo_run.specs.declared.refusal.Refusal.TheVariants as refusal
 use Rattle.kumo_run.specs.declared.status.Status.{Status}
 use Rattle.kumo_run.specs.declared.status.Status.TheVariants as status
 use Rattle.kumo_run.specs.RefusalLine.{refusal_line}
-use Rattle.kumo_run.specs.Words.{mail_name}
+use Rattle.kumo_run.specs.Words.{Command, send, check, command_of}
+use Rattle.kumo_run.specs.Checking.{IsChecked, IsFirstLong, IsFirstRefusal}
 use Rattle.kumo_run.specs.Given.{Given, too_long, mail_gives, given_by, IsMany}
 use Rattle.kumo_run.specs.Delivery.{IsSessionOf, IsNotDelivered}
 use Rattle.kumo_run.specs.Run.{IsRun}
@@ -38,48 +39,76 @@ pub record Refuses (out : SinkChange) (why : Refusal) : Type 0 where
   pub front : WroteFront out (refusal_line why)
   pub whole : (Rose out.faults_before out.faults_after → ⊥) → Wrote out (refusal_line why)
 
--- the words name a mail text, and where it is told, this is said of what it gives
-pub record Gives (words : List (List ℕ)) (told : List ℕ → Option (List ℕ)) (P : Given → Type 0) : Type 0 where
-  pub named : IsSome (mail_name words)
-  pub given : IfSome (option_and_then told (mail_name words)) (λ text. P (given_by text))
+-- where the mail text is told, this is said of what it gives
+abbrev pub Gives : Option (List ℕ) → (Given → Type 0) → Type 0
+Gives told P = IfSome told (λ text. P (given_by text))
 
 -- the work was done: the history is the run of the mail
-pub record Works (words : List (List ℕ)) (told : List ℕ → Option (List ℕ)) (h : List Entry) (sessions : List Session) : Type 0 where
+pub record Works (told : Option (List ℕ)) (h : List Entry) (sessions : List Session) : Type 0 where
   pub mail : List Message
-  pub given : Gives words told (λ found. found ≡ mail_gives (messages mail))
+  pub given : Gives told (λ found. found ≡ mail_gives (messages mail))
   pub run : IsRun mail h sessions
 
 -- the mail is one message, and its one session did not deliver it
-pub record FallsShort (words : List (List ℕ)) (told : List ℕ → Option (List ℕ)) (sessions : List Session) : Type 0 where
+pub record FallsShort (told : Option (List ℕ)) (sessions : List Session) : Type 0 where
   pub message : Message
   pub session : Session
-  pub given : Gives words told (λ found. found ≡ mail_gives (messages (message ∷ [])))
+  pub given : Gives told (λ found. found ≡ mail_gives (messages (message ∷ [])))
   pub sessions_are : sessions ≡ session ∷ []
   pub session_is : IsSessionOf message session
   pub undelivered : IsNotDelivered message session
 
+-- how `send` ends: by what the mail text tells and the counts of the texts' faults, the sink, the history that is handed out
+-- and the sessions of the linkers
+abbrev pub EndsSend : Status → Option (List ℕ) → ℕ → ℕ → SinkChange → Option (List Entry) → List Session → Type 0
+EndsSend status.Drained told before after out history sessions =
+    (h : List Entry) × (history ≡ Some h) × Wrote out (log_text h) × Works told h sessions
+EndsSend status.Usage told before after out history sessions = ⊥
+EndsSend status.Policy told before after out history sessions = ⊥
+EndsSend status.Mail told before after out history sessions =
+    (line : ℕ) × (why : MailWhy) × Gives told (λ found. found ≡ mail_gives (refused line why)) × (history ≡ None)
+    × Refuses out (refusal.Mail line why)
+EndsSend status.ReadFault told before after out history sessions =
+    Rose before after × (history ≡ None) × Refuses out refusal.ReadFault
+EndsSend status.WriteFault told before after out history sessions =
+    (h : List Entry) × (history ≡ Some h) × Rose out.faults_before out.faults_after × WroteFront out (log_text h)
+    × Works told h sessions
+EndsSend status.Limit told before after out history sessions =
+    Gives told (λ found. found ≡ too_long) × (history ≡ None) × Refuses out refusal.Limit
+EndsSend status.Memory told before after out history sessions =
+    ((history ≡ None) × Refuses out refusal.Memory)
+    ⊎ ((h : List Entry) × (history ≡ Some h) × WroteFront out (log_text h) × Works told h sessions)
+EndsSend status.NotYet told before after out history sessions =
+    (history ≡ None)
+    × ((Gives told IsMany × Refuses out refusal.NotYetMail)
+    ⊎ (FallsShort told sessions × Refuses out refusal.NotYetReply))
+
+-- how `check` ends: by what the texts tell and the counts of their faults, and the sink
+abbrev pub EndsCheck : Status → (List ℕ → Option (List ℕ)) → List ℕ → List ℕ → ℕ → ℕ → SinkChange → Type 0
+EndsCheck status.Drained told sources queues before after out =
+    (text : List ℕ) × IsChecked told sources queues text × Wrote out text
+EndsCheck status.Usage told sources queues before after out = ⊥
+EndsCheck status.Policy told sources queues before after out =
+    (why : Refusal) × IsFirstRefusal told sources queues why × Refuses out why
+EndsCheck status.Mail told sources queues before after out = ⊥
+EndsCheck status.ReadFault told sources queues before after out = Rose before after × Refuses out refusal.ReadFault
+EndsCheck status.WriteFault told sources queues before after out =
+    (text : List ℕ) × IsChecked told sources queues text × Rose out.faults_before out.faults_after × WroteFront out text
+EndsCheck status.Limit told sources queues before after out = IsFirstLong told sources queues × Refuses out refusal.Limit
+EndsCheck status.Memory told sources queues before after out = Refuses out refusal.Memory
+EndsCheck status.NotYet told sources queues before after out = ⊥
+
+-- how a command ends
+abbrev pub EndsCommand : Option Command → Status → (List ℕ → Option (List ℕ)) → ℕ → ℕ → SinkChange → Option (List Entry) → List Session → Type 0
+EndsCommand None code told before after out history sessions =
+    (code ≡ status.Usage) × (history ≡ None) × Refuses out refusal.Usage
+EndsCommand (Some (send mail)) code told before after out history sessions =
+    EndsSend code (told mail) before after out history sessions
+EndsCommand (Some (check sources queues)) code told before after out history sessions =
+    (history ≡ None) × EndsCheck code told sources queues before after out
+
 -- by the words, what the texts tell and the counts of their faults, the sink, the history that is handed out and the
 -- sessions of the linkers
 abbrev pub Ends : Status → List (List ℕ) → (List ℕ → Option (List ℕ)) → ℕ → ℕ → SinkChange → Option (List Entry) → List Session → Type 0
-Ends status.Drained words told before after out history sessions =
-    (h : List Entry) × (history ≡ Some h) × Wrote out (log_text h) × Works words told h sessions
-Ends status.Usage words told before after out history sessions =
-    (mail_name words ≡ None) × (history ≡ None) × Refuses out refusal.Usage
-Ends status.Mail words told before after out history sessions =
-    (line : ℕ) × (why : MailWhy) × Gives words told (λ found. found ≡ mail_gives (refused line why)) × (history ≡ None)
-    × Refuses out (refusal.Mail line why)
-Ends status.ReadFault words told before after out history sessions =
-    Rose before after × IsSome (mail_name words) × (history ≡ None) × Refuses out refusal.ReadFault
-Ends status.WriteFault words told before after out history sessions =
-    (h : List Entry) × (history ≡ Some h) × Rose out.faults_before out.faults_after × WroteFront out (log_text h)
-    × Works words told h sessions
-Ends status.Limit words told before after out history sessions =
-    Gives words told (λ found. found ≡ too_long) × (history ≡ None) × Refuses out refusal.Limit
-Ends status.Memory words told before after out history sessions =
-    IsSome (mail_name words)
-    × (((history ≡ None) × Refuses out refusal.Memory)
-    ⊎ ((h : List Entry) × (history ≡ Some h) × WroteFront out (log_text h) × Works words told h sessions))
-Ends status.NotYet words told before after out history sessions =
-    (history ≡ None)
-    × ((Gives words told IsMany × Refuses out refusal.NotYetMail)
-    ⊎ (FallsShort words told sessions × Refuses out refusal.NotYetReply))
+Ends code words told before after out history sessions =
+    EndsCommand (command_of words) code told before after out history sessions

@@ -12,3 +12,6 @@ pub mod LogMembers
 pub mod LogGathered
 pub mod ScriptedPeer
 pub mod Work
+pub mod PolicyText
+pub mod Checking
+pub mod PolicyReading

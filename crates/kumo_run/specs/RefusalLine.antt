@@ -2,6 +2,9 @@
 use Rattle.std.specs.Prelude.{ℕ, List, ◌++◌, codes, decimal}
 use Rattle.mail_input.specs.declared.MailWhy.{MailWhy}
 use Rattle.mail_input.specs.declared.MailWhy.TheVariants as why
+use Rattle.policy_core.specs.Words.{name_of_file, name_of_why}
+use Rattle.policy_core.specs.declared.fault.PolicyFile.{PolicyFile}
+use Rattle.policy_core.specs.declared.fault.Why.{Why}
 use Rattle.kumo_run.specs.declared.refusal.Refusal.{Refusal}
 use Rattle.kumo_run.specs.declared.refusal.Refusal.TheVariants as refusal
 use Rattle.kumo_run.specs.declared.status.Status.{Status}
@@ -19,8 +22,19 @@ end_of_line why.BadName = codes ": BadName\n"
 end_of_line why.TooLong = codes ": TooLong\n"
 end_of_line why.Duplicate = codes ": Duplicate\n"
 
+-- the parts of the line of a refused policy text: its file, its table and key, its word
+abbrev pub policy_start : PolicyFile → List ℕ
+policy_start file = codes "error: policy " ++ (name_of_file file ++ codes " ")
+
+abbrev pub policy_place : List ℕ → List ℕ → List ℕ
+policy_place table key = table ++ (codes " " ++ key)
+
+abbrev pub policy_end : Why → List ℕ
+policy_end why = codes ": " ++ (name_of_why why ++ codes "\n")
+
 abbrev pub refusal_line : Refusal → List ℕ
 refusal_line refusal.Usage = codes "error: usage\n"
+refusal_line (refusal.Policy file table key why) = policy_start file ++ (policy_place table key ++ policy_end why)
 refusal_line (refusal.Mail line why) = codes "error: mail line " ++ (decimal line ++ end_of_line why)
 refusal_line refusal.ReadFault = codes "error: read fault\n"
 refusal_line refusal.Limit = codes "error: limit text\n"
@@ -30,6 +44,7 @@ refusal_line refusal.NotYetReply = codes "error: not yet reply\n"
 
 abbrev pub status_of : Refusal → Status
 status_of refusal.Usage = status.Usage
+status_of (refusal.Policy file table key why) = status.Policy
 status_of (refusal.Mail line why) = status.Mail
 status_of refusal.ReadFault = status.ReadFault
 status_of refusal.Limit = status.Limit

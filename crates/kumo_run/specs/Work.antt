@@ -1,5 +1,5 @@
 -- What the work before the log comes to.
-use Rattle.std.specs.Prelude.{◌≡◌, ℕ, List, [], ◌∷◌, Option, None, IsSome, IfSome, flat_map, ⊤, ◌<◌, length}
+use Rattle.std.specs.Prelude.{◌≡◌, ℕ, List, [], ◌∷◌, Option, IfSome, flat_map, ⊤, ◌<◌, length}
 use Rattle.kumo_base.specs.Causes.{Rose}
 use Rattle.queue_name.specs.declared.message.Message.{Message}
 use Rattle.kumo_outside.specs.declared.session.Session.{Session}
@@ -10,7 +10,6 @@ use Rattle.kumo_run.specs.Given.{Given, too_long, mail_gives, given_by, IsMany}
 use Rattle.kumo_run.specs.declared.refusal.Refusal.{Refusal}
 use Rattle.kumo_run.specs.declared.refusal.Refusal.TheVariants as refusal
 use Rattle.kumo_run.specs.ScriptedPeer.{LinkerState}
-use Rattle.kumo_run.specs.Words.{mail_name}
 use Rattle.kumo_run.specs.Delivery.{IsSessionOf, IsNotDelivered}
 use Rattle.kumo_run.specs.Ends.{Gives, FallsShort}
 
@@ -19,14 +18,15 @@ abbrev pub all_sessions : List LinkerState → List Session
 all_sessions linkers = flat_map (λ k. k.sessions) linkers
 
 -- the cause of each refusal
-abbrev pub HasReason : Refusal → List (List ℕ) → (List ℕ → Option (List ℕ)) → ℕ → ℕ → List Session → Type 0
-HasReason refusal.Usage words told before after sessions = mail_name words ≡ None
-HasReason (refusal.Mail line why) words told before after sessions = Gives words told (λ found. found ≡ mail_gives (refused line why))
-HasReason refusal.ReadFault words told before after sessions = Rose before after × IsSome (mail_name words)
-HasReason refusal.Limit words told before after sessions = Gives words told (λ found. found ≡ too_long)
-HasReason refusal.Memory words told before after sessions = IsSome (mail_name words)
-HasReason refusal.NotYetMail words told before after sessions = Gives words told IsMany
-HasReason refusal.NotYetReply words told before after sessions = FallsShort words told sessions
+abbrev pub HasReason : Refusal → Option (List ℕ) → ℕ → ℕ → List Session → Type 0
+HasReason refusal.Usage told before after sessions = ⊥
+HasReason (refusal.Policy file table key why) told before after sessions = ⊥
+HasReason (refusal.Mail line why) told before after sessions = Gives told (λ found. found ≡ mail_gives (refused line why))
+HasReason refusal.ReadFault told before after sessions = Rose before after
+HasReason refusal.Limit told before after sessions = Gives told (λ found. found ≡ too_long)
+HasReason refusal.Memory told before after sessions = ⊤
+HasReason refusal.NotYetMail told before after sessions = Gives told IsMany
+HasReason refusal.NotYetReply told before after sessions = FallsShort told sessions
 
 -- the refusal that a fault of the mail text comes to
 abbrev pub refusal_of : MailFault → Refusal
@@ -36,6 +36,7 @@ refusal_of fault.Memory = refusal.Memory
 -- what a mail text comes to is refused so
 abbrev pub IsMisread : Refusal → Given → Type 0
 IsMisread refusal.Usage found = ⊥
+IsMisread (refusal.Policy file table key why) found = ⊥
 IsMisread (refusal.Mail line why) found = found ≡ mail_gives (refused line why)
 IsMisread refusal.ReadFault found = ⊥
 IsMisread refusal.Limit found = found ≡ too_long
@@ -46,6 +47,7 @@ IsMisread refusal.NotYetReply found = ⊥
 -- the same of a text that is told, or a read of it failed
 abbrev pub IsUnread : Refusal → Option (List ℕ) → ℕ → ℕ → Type 0
 IsUnread refusal.Usage told before after = ⊥
+IsUnread (refusal.Policy file table key why) told before after = ⊥
 IsUnread (refusal.Mail line why) told before after = IfSome told (λ text. given_by text ≡ mail_gives (refused line why))
 IsUnread refusal.ReadFault told before after = Rose before after
 IsUnread refusal.Limit told before after = IfSome told (λ text. given_by text ≡ too_long)
@@ -56,6 +58,7 @@ IsUnread refusal.NotYetReply told before after = ⊥
 -- where the messages were read: no memory, or more than one message, or the one was not delivered in the one session
 abbrev pub StopsShort : Refusal → List Message → List Session → Type 0
 StopsShort refusal.Usage mail sessions = ⊥
+StopsShort (refusal.Policy file table key why) mail sessions = ⊥
 StopsShort (refusal.Mail line why) mail sessions = ⊥
 StopsShort refusal.ReadFault mail sessions = ⊥
 StopsShort refusal.Limit mail sessions = ⊥

@@ -14,9 +14,9 @@ ghost use Rattle.kumo_run.specs.Working.{IsFreshLink, Converses, Parts, Connects
 use crate::registry::Registry;
 use kumo_base::{Memory, Room, Text};
 use kumo_outside::{Link, Linker};
-use smtp_reply::Outcome;
 use queue_name::Message;
 use smtp_dialogue::{Greeted, Scratch, attempt, farewell, greet};
+use smtp_reply::Outcome;
 use std::alloc::Global;
 
 /// The one source that is there without a sources file.

@@ -4,10 +4,12 @@
 //! `delivery_log` and `scripted_peer` will become crates of these names.
 #![tactic(auto)]
 
+mod check;
 mod delivery_log;
 mod dispatcher;
 mod refusal;
 mod registry;
+mod report;
 #[cfg(test)]
 mod rows;
 mod run;
@@ -21,3 +23,4 @@ pub use refusal::Refusal;
 pub use run::{Finished, perform};
 pub use scripted_peer::{PeerReplies, ScriptedLink, ScriptedLinker};
 pub use status::Status;
+pub use words::Command;

@@ -2,21 +2,32 @@
 ghost use Rattle.std.specs.Prelude.{◌≡◌, ◌≤◌, ◌++◌, OnOk, OnErr, codes, decimal};
 ghost use Rattle.kumo_base.specs.Causes.{Rose, HasCause};
 ghost use Rattle.kumo_outside.specs.Told.{extended, TakesFront};
-ghost use Rattle.kumo_run.specs.RefusalLine.{refusal_line, status_of, end_of_line};
+ghost use Rattle.kumo_run.specs.RefusalLine.{refusal_line, status_of, end_of_line, policy_start, policy_place, policy_end};
 
 use crate::status::Status;
 use itoa::Buffer;
-use kumo_base::Failed;
+use kumo_base::{Failed, Text};
 use kumo_outside::{Sink, put_all};
 use mail_input::MailWhy;
+use policy_core::{PolicyFile, Why};
 
 /// Why no work was done.
-#[derive(Clone, Copy, Debug, PartialEq, Eq)]
+#[derive(Drop)]
 pub enum Refusal {
     /// The words are no command.
     Usage,
+    /// This place of a policy text is the first that is at fault. Table and key are `-` where there is none.
+    Policy {
+        file: PolicyFile,
+        table: Text,
+        key: Text,
+        why: Why,
+    },
     /// This line of the mail is the first refused one, for this reason.
-    Mail { line: u64, why: MailWhy },
+    Mail {
+        line: u64,
+        why: MailWhy,
+    },
     /// A text could not be read.
     ReadFault,
     /// The text has more bytes than are read.
@@ -31,11 +42,12 @@ pub enum Refusal {
 
 impl Refusal {
     /// The status that the run ends with.
-    pub fn status(self) -> Status
-        ensures { result ≡ status_of self }
+    pub fn status(&self) -> Status
+        ensures { result ≡ status_of self.now }
     {
         match self {
             Refusal::Usage => Status::Usage,
+            Refusal::Policy { .. } => Status::Policy,
             Refusal::Mail { .. } => Status::Mail,
             Refusal::ReadFault => Status::ReadFault,
             Refusal::Limit => Status::Limit,
@@ -45,9 +57,9 @@ impl Refusal {
     }
 
     /// Prints the refusal's line. Where the sink fails a front of it was printed; a refusal stays what it is.
-    pub fn print<O: Sink>(self, out: &mut O)
-        ensures front { TakesFront (O.told out.old) (O.told out.new) (refusal_line self) }
-        ensures whole { (Rose (O.faults out.old) (O.faults out.new) → ⊥) → O.told out.new ≡ extended (O.told out.old) (refusal_line self) }
+    pub fn print<O: Sink>(&self, out: &mut O)
+        ensures front { TakesFront (O.told out.old) (O.told out.new) (refusal_line self.now) }
+        ensures whole { (Rose (O.faults out.old) (O.faults out.new) → ⊥) → O.told out.new ≡ extended (O.told out.old) (refusal_line self.now) }
         ensures later { O.faults out.old ≤ O.faults out.new }
     {
         match put_line(self, out) {
@@ -58,20 +70,44 @@ impl Refusal {
 }
 
 /// Puts the refusal's line, without memory.
-fn put_line<O: Sink>(refusal: Refusal, out: &mut O) -> Result<(), Failed>
-    ensures whole { OnOk result (O.told out.new ≡ extended (O.told out.old) (refusal_line refusal)) }
-    ensures part { OnErr result (TakesFront (O.told out.old) (O.told out.new) (refusal_line refusal)) }
+fn put_line<O: Sink>(refusal: &Refusal, out: &mut O) -> Result<(), Failed>
+    ensures whole { OnOk result (O.told out.new ≡ extended (O.told out.old) (refusal_line refusal.now)) }
+    ensures part { OnErr result (TakesFront (O.told out.old) (O.told out.new) (refusal_line refusal.now)) }
     ensures cause { HasCause (O.faults out.old) (O.faults out.new) result }
 {
     match refusal {
         Refusal::Usage => put_text(out, "error: usage\n"),
-        Refusal::Mail { line, why } => put_mail_line(line, why, out),
+        Refusal::Policy {
+            file,
+            table,
+            key,
+            why,
+        } => put_policy_line(*file, table.as_str(), key.as_str(), *why, out),
+        Refusal::Mail { line, why } => put_mail_line(*line, *why, out),
         Refusal::ReadFault => put_text(out, "error: read fault\n"),
         Refusal::Limit => put_text(out, "error: limit text\n"),
         Refusal::Memory => put_text(out, "error: memory\n"),
         Refusal::NotYetMail => put_text(out, "error: not yet mail\n"),
         Refusal::NotYetReply => put_text(out, "error: not yet reply\n"),
     }
+}
+
+/// Puts the line of a refused policy text.
+fn put_policy_line<O: Sink>(
+    file: PolicyFile,
+    table: &str,
+    key: &str,
+    why: Why,
+    out: &mut O,
+) -> Result<(), Failed>
+    ensures whole { OnOk result (O.told out.new ≡ extended (O.told out.old) (refusal_line (Refusal.Policy file table.now key.now why))) }
+    ensures part { OnErr result (TakesFront (O.told out.old) (O.told out.new) (refusal_line (Refusal.Policy file table.now key.now why))) }
+    ensures cause { HasCause (O.faults out.old) (O.faults out.new) result }
+{
+    put_three(out, "error: policy ", file.name(), " ")?;
+    put_three(out, table, " ", key)?;
+    put_three(out, ": ", why.name(), "\n")?;
+    Ok(())
 }
 
 /// Puts the line of a refused mail line.

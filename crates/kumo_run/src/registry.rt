@@ -10,8 +10,8 @@ ghost use Rattle.kumo_run.specs.Steps.{entry};
 
 use history_core::{Cause, Entry, Event, History, Next};
 use kumo_base::{Memory, Text};
-use smtp_reply::{Outcome, Reply};
 use queue_name::Message;
+use smtp_reply::{Outcome, Reply};
 use std::alloc::Global;
 use std::marker::Model;
 

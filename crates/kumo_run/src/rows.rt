@@ -40,11 +40,13 @@ fn words_of(alloc: Global, words: &[&str]) -> Result<Vec<Text>, Memory> {
     Ok(texts)
 }
 
-/// A shelf with the one text `m`.
-fn shelf(alloc: Global, mail: &[u8]) -> Result<MemTexts, Memory> {
+/// A shelf with these texts.
+fn shelf(alloc: Global, named: &[(&str, &[u8])]) -> Result<MemTexts, Memory> {
     let mut texts = Vec::new(alloc);
-    let name = Text::of(alloc, "m")?;
-    texts.push((name, Bytes::of(Vec::from_slice(alloc, mail)?)))?;
+    for (name, bytes) in named {
+        let name = Text::of(alloc, name)?;
+        texts.push((name, Bytes::of(Vec::from_slice(alloc, bytes)?)))?;
+    }
     Ok(MemTexts::new(texts, Vec::new(alloc)))
 }
 
@@ -58,10 +60,15 @@ struct Left {
     has_history: bool,
 }
 
-/// Runs the program over a mail text named `m` and a sink of which these puts fail.
-fn run(alloc: Global, words: &[&str], mail: &[u8], failing: Vec<u64>) -> Result<Left, Memory> {
+/// Runs the program over these texts and a sink of which these puts fail.
+fn run(
+    alloc: Global,
+    words: &[&str],
+    named: &[(&str, &[u8])],
+    failing: Vec<u64>,
+) -> Result<Left, Memory> {
     let words = words_of(alloc, words)?;
-    let mut texts = shelf(alloc, mail)?;
+    let mut texts = shelf(alloc, named)?;
     let mut out = MemSink::new(alloc, failing);
     let finished = perform(alloc, words.as_slice(), &mut texts, &mut out, (), (), ());
     let mut sent = Vec::new(alloc);
@@ -78,14 +85,25 @@ fn run(alloc: Global, words: &[&str], mail: &[u8], failing: Vec<u64>) -> Result<
     })
 }
 
+/// Sends the mail text `m`.
+fn run_send(alloc: Global, mail: &[u8], failing: Vec<u64>) -> Result<Left, Memory> {
+    run(alloc, &["send", "--mail", "m"], &[("m", mail)], failing)
+}
+
+/// Checks the sources file `o` and the queues file `q`.
+fn run_check(
+    alloc: Global,
+    sources: &[u8],
+    queues: &[u8],
+    failing: Vec<u64>,
+) -> Result<Left, Memory> {
+    let words = ["check", "--sources", "o", "--queues", "q"];
+    run(alloc, &words, &[("o", sources), ("q", queues)], failing)
+}
+
 #[test]
 fn one_message_delivered(rt: HostRuntime) -> Result<(), Fail> {
-    let left = run(
-        rt.alloc(),
-        &["send", "--mail", "m"],
-        M1.as_bytes(),
-        Vec::new(rt.alloc()),
-    )?;
+    let left = run_send(rt.alloc(), M1.as_bytes(), Vec::new(rt.alloc()))?;
     assert_eq!(rt; left.status, 0);
     assert_eq!(rt; left.output.as_slice(), DELIVERED.as_bytes());
     assert_eq!(rt;
@@ -121,7 +139,7 @@ fn statuses_and_lines(rt: HostRuntime) -> Result<(), Fail> {
         (send, TWO.as_bytes(), 12, "error: not yet mail\n"),
     ];
     for (words, mail, status, output) in &rows {
-        let left = run(rt.alloc(), words, mail, Vec::new(rt.alloc()))?;
+        let left = run(rt.alloc(), words, &[("m", mail)], Vec::new(rt.alloc()))?;
         assert_eq!(rt; left.status, *status);
         assert_eq!(rt; left.output.as_slice(), output.as_bytes());
         assert_eq!(rt; left.has_history, *status == 0);
@@ -131,14 +149,17 @@ fn statuses_and_lines(rt: HostRuntime) -> Result<(), Fail> {
 
 #[test]
 fn a_sink_that_fails(rt: HostRuntime) -> Result<(), Fail> {
-    let send: &[&str] = &["send", "--mail", "m"];
-    let left = run(rt.alloc(), send, M1.as_bytes(), vec![in rt.alloc(); 1]?)?;
+    let left = run_send(rt.alloc(), M1.as_bytes(), vec![in rt.alloc(); 1]?)?;
     assert_eq!(rt; left.status, 6);
     assert_eq!(rt; left.output.len(), 0);
     assert!(rt; left.has_history);
     // a refusal stays what it is
-    let left = run(rt.alloc(), &["fly"], b"", vec![in rt.alloc(); 1]?)?;
+    let left = run(rt.alloc(), &["fly"], &[], vec![in rt.alloc(); 1]?)?;
     assert_eq!(rt; left.status, 2);
+    assert_eq!(rt; left.output.len(), 0);
+    // a report that is not printed whole
+    let left = run_check(rt.alloc(), b"", b"", vec![in rt.alloc(); 1]?)?;
+    assert_eq!(rt; left.status, 6);
     assert_eq!(rt; left.output.len(), 0);
     Ok(())
 }
@@ -156,16 +177,30 @@ fn transparency_of_the_body(rt: HostRuntime) -> Result<(), Fail> {
             "{{\"id\":\"00000000000000000000000000000001\",\"created\":0,\"sender\":\"\",\"recipient\":\"u@a.example\",\"body\":\"{body}\"}}"
         )?;
         let expected = format!(in rt.alloc(); "{head}{wire}")?;
-        let left = run(
-            rt.alloc(),
-            &["send", "--mail", "m"],
-            mail.as_bytes(),
-            Vec::new(rt.alloc()),
-        )?;
+        let left = run_send(rt.alloc(), mail.as_bytes(), Vec::new(rt.alloc()))?;
         assert_eq!(rt; left.status, 0);
         assert_eq!(rt; left.sent.as_slice(), expected.as_bytes());
     }
     Ok(())
+}
+
+/// The bytes sent to a receiver that replies so, where that is not followed up.
+fn sent_to(alloc: Global, says: PeerReplies) -> Result<Vec<u8>, Fail> {
+    let mut texts = shelf(alloc, &[("m", M1.as_bytes())])?;
+    let mut peers = Vec::new(alloc);
+    if !matches!(
+        &work(alloc, "m", &mut texts, says, &mut peers),
+        Err(Refusal::NotYetReply)
+    ) {
+        return Err(Fail::new("not refused"));
+    }
+    let mut sent = Vec::new(alloc);
+    for linker in peers.iter() {
+        for session in linker.sessions() {
+            sent.extend_from_slice(session.sent.as_slice())?;
+        }
+    }
+    Ok(sent)
 }
 
 #[test]
@@ -175,27 +210,129 @@ fn a_receiver_that_refuses(rt: HostRuntime) -> Result<(), Fail> {
         ..PeerReplies::new()
     };
     let closed = PeerReplies {
-        greet: "554 no",
+        greet: "554-no\r\n554 never",
         ..PeerReplies::new()
     };
-    let rows: [(PeerReplies, &str); 2] = [
+    let other_code = PeerReplies {
+        ehlo: "250-a\r\n251 b",
+        ..PeerReplies::new()
+    };
+    let rows: [(PeerReplies, &str); 3] = [
         (
             later,
             "EHLO localhost\r\nMAIL FROM:<s@b.example>\r\nRSET\r\nQUIT\r\n",
         ),
         (closed, ""),
+        (other_code, "EHLO localhost\r\n"),
     ];
-    for (says, sent) in &rows {
-        let words = words_of(rt.alloc(), &["send", "--mail", "m"])?;
-        let mut texts = shelf(rt.alloc(), M1.as_bytes())?;
-        let mut peers = Vec::new(rt.alloc());
-        let worked = work(rt.alloc(), words.as_slice(), &mut texts, *says, &mut peers);
-        assert!(rt; matches!(&worked, Err(Refusal::NotYetReply)));
-        assert_eq!(rt; peers.len(), 1);
-        let sessions = peers[0].sessions();
-        assert_eq!(rt; sessions.len(), 1);
-        assert_eq!(rt; sessions[0].sent.as_slice(), sent.as_bytes());
-        assert_eq!(rt; sessions[0].host.as_str(), "a.example");
+    for (says, wanted) in &rows {
+        let sent = sent_to(rt.alloc(), *says)?;
+        assert_eq!(rt; sent.as_slice(), wanted.as_bytes());
+    }
+    Ok(())
+}
+
+/// The outcome of the one message that is sent to a receiver that replies so: whether it was delivered.
+fn is_delivered_by(alloc: Global, says: PeerReplies) -> Result<bool, Fail> {
+    let mut texts = shelf(alloc, &[("m", M1.as_bytes())])?;
+    let mut peers = Vec::new(alloc);
+    Ok(work(alloc, "m", &mut texts, says, &mut peers).is_ok())
+}
+
+#[test]
+fn replies_of_several_lines(rt: HostRuntime) -> Result<(), Fail> {
+    let says = PeerReplies {
+        greet: "220-a\r\n220 b",
+        ehlo: "250-a\r\n250-PIPELINING\r\n250 SIZE 1",
+        body: "250-2.0.0 ok\n250",
+        ..PeerReplies::new()
+    };
+    assert!(rt; is_delivered_by(rt.alloc(), says)?);
+    Ok(())
+}
+
+const SOURCES: &str =
+    "[source.\"ip-1\"]\nsource_address = \"10.0.0.1\"\nehlo_domain = \"mta1.b.example\"\n[source.\"ip-2\"]\nsource_address = \"10.0.0.2\"\n[pool.\"pool0\"]\n[pool.\"pool0\".\"ip-1\"]\n[pool.\"pool0\".\"ip-2\"]\nweight = 2\n";
+
+const QUEUES: &str =
+    "[tenant.'mytenant']\negress_pool = 'pool0'\n[queue.default]\nmax_age = '24 hours'\n[queue.'one.example']\nretry_interval = '17 mins'\n";
+
+#[test]
+fn policy_files_are_checked(rt: HostRuntime) -> Result<(), Fail> {
+    let rows: [(&str, &str, u8, &str); 8] = [
+        (
+            SOURCES,
+            QUEUES,
+            0,
+            "ignored sources source.ip-1 source_address\nignored sources source.ip-2 source_address\nok\n",
+        ),
+        ("", "", 0, "ok\n"),
+        (
+            "b = 1\na = 1",
+            "[queue.'d']\nz = 1\n[queue.'d'.'t'.'c'.'x']\n[x]\n",
+            0,
+            "ignored queues - x\nignored queues queue.d z\nignored queues queue.d.t.c x\nignored sources - a\nignored sources - b\nok\n",
+        ),
+        ("x", "x", 3, "error: policy sources - -: NotToml\n"),
+        (SOURCES, "x", 3, "error: policy queues - -: NotToml\n"),
+        (
+            "[pool.'p'.'s']",
+            "x",
+            3,
+            "error: policy sources pool.p.s -: UnknownSource\n",
+        ),
+        (
+            SOURCES,
+            "[queue.'A.example']\n[queue.'a.example']\nmax_age = 'x'",
+            3,
+            "error: policy queues queue.a.example -: Twice\n",
+        ),
+        (
+            SOURCES,
+            "[tenant.'t']\nretry_interval = 0",
+            3,
+            "error: policy queues tenant.t retry_interval: Zero\n",
+        ),
+    ];
+    for (sources, queues, status, output) in &rows {
+        let left = run_check(
+            rt.alloc(),
+            sources.as_bytes(),
+            queues.as_bytes(),
+            Vec::new(rt.alloc()),
+        )?;
+        assert_eq!(rt; left.output.as_slice(), output.as_bytes());
+        assert_eq!(rt; left.status, *status);
+        assert!(rt; !left.has_history);
+    }
+    Ok(())
+}
+
+#[test]
+fn words_of_check(rt: HostRuntime) -> Result<(), Fail> {
+    let rows: [(&[&str], u8, &str); 5] = [
+        (&["check", "--sources", "o", "--queues", "o"], 0, "ok\n"),
+        (
+            &["check", "--queues", "o", "--sources", "o"],
+            2,
+            "error: usage\n",
+        ),
+        (&["check"], 2, "error: usage\n"),
+        (
+            &["check", "--sources", "o", "--queues", "-o"],
+            2,
+            "error: usage\n",
+        ),
+        (
+            &["check", "--sources", "o", "--queues", "n"],
+            5,
+            "error: read fault\n",
+        ),
+    ];
+    for (words, status, output) in &rows {
+        let left = run(rt.alloc(), words, &[("o", b"")], Vec::new(rt.alloc()))?;
+        assert_eq!(rt; left.status, *status);
+        assert_eq!(rt; left.output.as_slice(), output.as_bytes());
     }
     Ok(())
 }

@@ -5,10 +5,12 @@ ghost use Rattle.kumo_run.specs.StatusCode.{code_of};
 /// The status of a run; its number is the exit status of the process.
 #[derive(Clone, Copy, Debug, PartialEq, Eq)]
 pub enum Status {
-    /// Every message has its fate, and the log was written whole.
+    /// Every message has its fate and the log was written whole, or what else was asked for was done.
     Drained,
     /// The words are no command.
     Usage,
+    /// A policy text is refused.
+    Policy,
     /// The mail text is refused.
     Mail,
     /// A text could not be read.
@@ -31,6 +33,7 @@ impl Status {
         match self {
             Status::Drained => 0,
             Status::Usage => 2,
+            Status::Policy => 3,
             Status::Mail => 4,
             Status::ReadFault => 5,
             Status::WriteFault => 6,

@@ -1,4 +1,4 @@
-//! The work before the log: the words, the mail text, and the messages of it.
+//! The work before the log: the mail text and the messages of it.
 ghost use Rattle.std.specs.Prelude.{◌≡◌, [], ◌∷◌, IfOk, IfErr, IfSome, All};
 ghost use Rattle.queue_name.specs.Message.{IsProperMessage};
 ghost use Rattle.kumo_run.specs.Ends.{Works};
@@ -12,31 +12,27 @@ use crate::refusal::Refusal;
 use crate::registry::Registry;
 use crate::scripted_peer::{PeerReplies, ScriptedLinker};
 use crate::text_reader::{ReadTextFault, TEXT_LIMIT, read_text};
-use crate::words::mail_name;
 use history_core::History;
-use kumo_base::{Memory, Text};
+use kumo_base::Memory;
 use kumo_outside::Texts;
 use mail_input::{MailFault, read_mail};
 use queue_name::Message;
 use std::alloc::Global;
 
-/// Reads what the words name and sends its message to peers that reply so. The linker that was used is added to
+/// Reads the mail text of that name and sends its message to peers that reply so. The linker that was used is added to
 /// `peers`.
 pub fn work<T: Texts>(
     alloc: Global,
-    words: &[Text],
+    mail: &str,
     texts: &mut T,
     says: PeerReplies,
     peers: &mut Vec<ScriptedLinker>,
 ) -> Result<History, Refusal>
     requires { peers.old.items ≡ [] }
-    ensures ok { IfOk result (λ h. Works words.now (T.told texts.old) h (all_sessions peers.new.items)) }
-    ensures err { IfErr result (λ why. HasReason why words.now (T.told texts.old) (T.faults texts.old) (T.faults texts.new) (all_sessions peers.new.items)) }
+    ensures ok { IfOk result (λ h. Works (T.told texts.old mail.now) h (all_sessions peers.new.items)) }
+    ensures err { IfErr result (λ why. HasReason why (T.told texts.old mail.now) (T.faults texts.old) (T.faults texts.new) (all_sessions peers.new.items)) }
 {
-    let Some(name) = mail_name(words) else {
-        return Err(Refusal::Usage);
-    };
-    match read_messages(alloc, texts, name) {
+    match read_messages(alloc, texts, mail) {
         Ok(messages) => send(alloc, messages.as_slice(), says, peers),
         Err(refusal) => Err(refusal),
     }

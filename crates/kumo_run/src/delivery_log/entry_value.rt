@@ -9,9 +9,9 @@ ghost use Rattle.kumo_run.specs.LogMembers.{common_members, with_decision};
 
 use history_core::{Cause, Entry, Event, Next};
 use kumo_base::{Memory, Text};
-use smtp_reply::{Lost, Outcome};
 use queue_name::{Message, QueueName};
 use serde_json::{Map, Value, put};
+use smtp_reply::{Lost, Outcome};
 use std::alloc::Global;
 use uuid::Uuid;
 

@@ -22,6 +22,7 @@ told_as (Some text) read mail up e = same_given text read up ∙ e
 
 unread : (why : Refusal) (told : Option (List ℕ)) (read : List ℕ) (before after : ℕ) → IfSome told (λ text. IsReadUpTo TEXT_LIMIT text read) → IsMisread why (given_by read) → IsUnread why told before after
 unread refusal.Usage told read before after up h = absurd h
+unread (refusal.Policy file table key why) told read before after up h = absurd h
 unread (refusal.Mail line why) told read before after up h = told_as told read _ up h
 unread refusal.ReadFault told read before after up h = absurd h
 unread refusal.Memory told read before after up h = tt

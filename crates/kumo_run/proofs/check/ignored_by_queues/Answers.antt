@@ -1,0 +1,16 @@
+use Rattle.policy_core.specs.declared.fault.PolicyFile.TheVariants as file
+use Rattle.queues_policy.specs.QueuesFile.{queues_file}
+use Rattle.kumo_run.proofs.PolicyLemmas.{read_ok, read_err, as_read}
+use Rattle.kumo_run.proofs.check.ignored_by_queues.Goals as goal
+
+pub returns-in-Ok-clause-ok : goal.returns-in-Ok-clause-ok
+returns-in-Ok-clause-ok g c =
+    let told = g.T.Texts.told c.args.texts.now c.args.name.now in
+    read_ok queues_file (λ read. read.ignored) (λ keys. keys.items) told c.as_slice.result.now c.ignored_in_queues.result
+    (as_read told _ _ c.as_slice.ensures c.in-Ok.ensures.text) c.ignored_in_queues.ensures.ok
+
+pub returns-in-Ok-clause-err : goal.returns-in-Ok-clause-err
+returns-in-Ok-clause-err g c =
+    let told = g.T.Texts.told c.args.texts.now c.args.name.now in
+    read_err file.Queues queues_file told c.as_slice.result.now _ _ c.ignored_in_queues.result
+    (as_read told _ _ c.as_slice.ensures c.in-Ok.ensures.text) c.ignored_in_queues.ensures.err

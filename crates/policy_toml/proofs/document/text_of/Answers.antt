@@ -1,0 +1,14 @@
+use Rattle.std.proofs.Common.{◌≡◌, ℕ, List, Bool, true, false, IsUtf8, refl}
+use Rattle.std.proofs.lemmas.Str.{IsUtf8-from_is_utf8, is_utf8-from_IsUtf8}
+use Rattle.std.specs.Str.{is_utf8}
+use Rattle.policy_toml.proofs.document.text_of.Goals as goal
+
+not_text : (bytes : List ℕ) (b : Bool) → is_utf8 bytes ≡ b → ¬ IsUtf8 bytes → b ≡ false
+not_text bytes true e h = absurd (h (IsUtf8-from_is_utf8 bytes e))
+not_text bytes false e h = refl
+
+pub returns-in-Ok : goal.returns-in-Ok
+returns-in-Ok c = let cases = c.in-Ok.ensures.cases in rw (is_utf8-from_IsUtf8 _ cases.1, cases.0) refl
+
+pub returns-in-Err : goal.returns-in-Err
+returns-in-Err c = rw (not_text c.args.bytes.now _ refl c.in-Err.ensures.cases.0) refl

@@ -1,0 +1,72 @@
+-- The places of faults in a TOML file. Where a file has several faults, the first by place is reported: by the keys of its
+-- table joined by `.`, then by its key, then by the order of the refusals.
+use Rattle.std.specs.Prelude.{ℕ, ◌==◌, List, [], ◌∷◌, ◌++◌, length, Bool, Option, Some, None, if◌then◌else◌}
+use Rattle.std.specs.declared.cmp.Ordering.{Ordering}
+use Rattle.std.specs.Ordering.{nat_cmp, ordering_then, is_lt}
+use Rattle.std.specs.Cmp.Lexicographic.{slice_cmp}
+use Rattle.policy_core.specs.declared.fault.PolicyFile.{PolicyFile}
+use Rattle.policy_core.specs.declared.fault.Ignored.{Ignored}
+use Rattle.policy_core.specs.declared.fault.Why.{Why}
+use Rattle.policy_core.specs.declared.fault.Why.TheVariants as why
+use Rattle.policy_toml.specs.declared.fault.Fault.{Fault}
+use Rattle.policy_toml.specs.declared.fault.TheConstants.{WHOLE_TABLE}
+
+-- a table within a table, which is the empty text at the top level
+abbrev pub joined : List ℕ → List ℕ → List ℕ
+joined table key = if length table == 0 then key else table ++ 46 ∷ key
+
+abbrev pub fault : List ℕ → List ℕ → Why → Fault
+fault table key why = record { table = table; key = key; why = why }
+
+-- the key of a fault of a table as a whole, and the name of the top level
+abbrev pub whole_table : List ℕ
+whole_table = WHOLE_TABLE.now
+
+-- the order of the refusals that one key may meet
+abbrev pub rank_of : Why → ℕ
+rank_of why.NotToml = 0
+rank_of why.BadType = 1
+rank_of why.BadName = 2
+rank_of why.BadWeight = 3
+rank_of why.TooMany = 4
+rank_of why.UnknownSource = 5
+rank_of why.BadDuration = 6
+rank_of why.Zero = 7
+rank_of why.Twice = 8
+rank_of why.NotText = 9
+rank_of why.NotJson = 10
+rank_of why.UnknownPool = 11
+rank_of why.BadOption = 12
+rank_of why.BadThrottle = 13
+rank_of why.BadPattern = 14
+rank_of why.BadTrigger = 15
+rank_of why.BadAction = 16
+rank_of why.BadMatch = 17
+rank_of why.NoHost = 18
+rank_of why.Missing = 19
+rank_of why.BadKind = 20
+rank_of why.BadValue = 21
+rank_of why.Unsorted = 22
+
+abbrev pub fault_cmp : Fault → Fault → Ordering
+fault_cmp a b =
+    ordering_then (slice_cmp nat_cmp a.table b.table)
+    (ordering_then (slice_cmp nat_cmp a.key b.key) (nat_cmp (rank_of a.why) (rank_of b.why)))
+
+-- the fault that comes first, of one that may be there and another
+abbrev pub earlier : Option Fault → Fault → Fault
+earlier None f = f
+earlier (Some best) f = if is_lt (fault_cmp f best) then f else best
+
+-- the first by place of the faults met before and of these
+abbrev pub first_of : Option Fault → List Fault → Option Fault
+first_of best [] = best
+first_of best (f ∷ faults) = first_of (Some (earlier best f)) faults
+
+-- the name of a table where it is reported, which is `-` for the top level
+abbrev pub named : List ℕ → List ℕ
+named table = if length table == 0 then whole_table else table
+
+-- where a key without effect stands
+abbrev pub ignored_at : PolicyFile → List ℕ → List ℕ → Ignored
+ignored_at file table key = record { file = file; table = named table; key = key }

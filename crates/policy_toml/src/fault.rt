@@ -1,0 +1,168 @@
+//! The faults of a file, of which one is reported.
+ghost use Rattle.std.specs.Prelude.{◌≡◌, ◌∷◌, ℕ, List, [], Option, Some, None, IfOk, OnOk, OnErr};
+ghost use Rattle.std.specs.Ordering.{is_lt};
+ghost use Rattle.policy_toml.specs.Places.{first_of, fault, fault_cmp, rank_of, named};
+ghost use Rattle.policy_toml.specs.Reports.{IsReport};
+ghost use Rattle.policy_toml.specs.Walks.{faults_unless_table};
+ghost use Rattle.toml.specs.Data.{get_member};
+ghost use Rattle.toml.specs.View.{table_view};
+
+use crate::document::{entry, is_table};
+use kumo_base::{Memory, Text};
+use policy_core::{PolicyFault, PolicyFile, Why};
+use std::alloc::Global;
+use std::marker::Model;
+use toml::Table;
+
+/// The key of a fault of a table as a whole, and the name of the top level in reports.
+pub const WHOLE_TABLE: &str = "-";
+
+/// A fault at its place.
+#[derive(Drop)]
+pub struct Fault {
+    /// The keys of the table joined by `.`; empty at the top level.
+    pub table: Text,
+    /// The key in the table, or `-` where the table as a whole is at fault.
+    pub key: Text,
+    /// What is wrong there.
+    pub why: Why,
+}
+
+/// Of the faults met so far, the first by its place in the file.
+#[derive(Drop)]
+pub struct FirstFault {
+    found: Option<Fault>,
+}
+
+impl Model for FirstFault {
+    ghost use Rattle.std.specs.Prelude.{Option};
+    ghost use Rattle.policy_toml.specs.declared.fault.Fault.{Fault};
+
+    ghost Value = { Option Fault };
+
+    ghost view = { λ f. f.found };
+}
+
+impl FirstFault {
+    /// No fault was met.
+    pub fn new() -> FirstFault
+        ensures { result ≡ None }
+    {
+        FirstFault { found: None }
+    }
+
+    /// A fault was met. After `Memory` the one that was kept is kept.
+    pub fn note(&mut self, alloc: Global, table: &str, key: &str, why: Why) -> Result<(), Memory>
+        ensures ok { OnOk result (self.new ≡ first_of self.old (fault table.now key.now why ∷ [])) }
+        ensures err { OnErr result (self.new ≡ self.old) }
+    {
+        if let Some(best) = &self.found {
+            if !is_before(table, key, why, best) {
+                return Ok(());
+            }
+        }
+        let fault = Fault {
+            table: Text::of(alloc, table)?,
+            key: Text::of(alloc, key)?,
+            why,
+        };
+        self.found = Some(fault);
+        Ok(())
+    }
+
+    /// A value at the top level of a document that is to be a table. After `Memory` the fault that was kept is kept.
+    pub fn note_unless_table(
+        &mut self,
+        alloc: Global,
+        document: &Table,
+        key: &str,
+    ) -> Result<(), Memory>
+        ensures ok { OnOk result (self.new ≡ first_of self.old (faults_unless_table [] key.now (get_member key.now (table_view document.now)))) }
+        ensures err { OnErr result (self.new ≡ self.old) }
+    {
+        if let Some(value) = entry(document, key) {
+            if !is_table(value) {
+                self.note(alloc, "", key, Why::BadType)?;
+            }
+        }
+        Ok(())
+    }
+
+    /// The first by place of the faults that were met, `None` where there was none.
+    pub fn into_fault(self) -> Option<Fault>
+        ensures { result ≡ self }
+    {
+        let FirstFault { found } = self;
+        found
+    }
+}
+
+impl Fault {
+    /// The fault as it is reported, of this file. The top level is named `-`.
+    pub fn reported(self, alloc: Global, file: PolicyFile) -> PolicyFault
+        ensures { IsReport file self result }
+    {
+        let Fault { table, key, why } = self;
+        match named(alloc, table) {
+            Ok(table) => PolicyFault::At {
+                file,
+                table,
+                key,
+                why,
+            },
+            Err(Memory) => PolicyFault::Memory,
+        }
+    }
+}
+
+/// The name of a table in a report.
+fn named(alloc: Global, table: Text) -> Result<Text, Memory>
+    ensures { IfOk result (λ text. text ≡ named table) }
+{
+    if table.as_str().is_empty() {
+        Text::of(alloc, WHOLE_TABLE)
+    } else {
+        Ok(table)
+    }
+}
+
+/// Whether a fault at this place comes before another.
+fn is_before(table: &str, key: &str, why: Why, other: &Fault) -> bool
+    ensures { result ≡ is_lt (fault_cmp (fault table.now key.now why) other.now) }
+{
+    let by_table = table.cmp(other.table.as_str());
+    let by_key = key.cmp(other.key.as_str());
+    let by_rank = rank(why).cmp(&rank(other.why));
+    by_table.then(by_key).then(by_rank).is_lt()
+}
+
+/// The place of a refusal in the order in which those of one key are tried.
+fn rank(why: Why) -> u8
+    ensures { result ≡ rank_of why }
+{
+    match why {
+        Why::NotToml => 0,
+        Why::BadType => 1,
+        Why::BadName => 2,
+        Why::BadWeight => 3,
+        Why::TooMany => 4,
+        Why::UnknownSource => 5,
+        Why::BadDuration => 6,
+        Why::Zero => 7,
+        Why::Twice => 8,
+        Why::NotText => 9,
+        Why::NotJson => 10,
+        Why::UnknownPool => 11,
+        Why::BadOption => 12,
+        Why::BadThrottle => 13,
+        Why::BadPattern => 14,
+        Why::BadTrigger => 15,
+        Why::BadAction => 16,
+        Why::BadMatch => 17,
+        Why::NoHost => 18,
+        Why::Missing => 19,
+        Why::BadKind => 20,
+        Why::BadValue => 21,
+        Why::Unsorted => 22,
+    }
+}

@@ -1,0 +1,11 @@
+use Rattle.std.proofs.Common.{◌≡◌, ◌++◌}
+use Rattle.toml.specs.View.{members_view}
+use Rattle.policy_toml.specs.Walks.{over_members}
+use Rattle.queues_policy.specs.QueuesFile.{ignored_of_tenant}
+use Rattle.queues_policy.proofs.ignored.add_tenants.Given as goal
+
+abbrev pub invariant-loop-name : goal.invariant-loop-name
+invariant-loop-name l =
+    (goal.iterator-loop-name).can_next l.name-iterator ×
+    (goal.iterator-loop-name).is_finite l.name-iterator ×
+    (l.ignored.items ++ over_members ignored_of_tenant (members_view l.name-iterator) ≡ l.fn.ignored.items ++ over_members ignored_of_tenant (members_view l.tenants.entries))

@@ -1,0 +1,2 @@
+pub mod QueuesFile
+pub mod InForce

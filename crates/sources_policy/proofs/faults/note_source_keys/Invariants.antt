@@ -1,0 +1,12 @@
+use Rattle.std.proofs.Common.{◌≡◌, codes}
+use Rattle.toml.specs.View.{members_view, table_view}
+use Rattle.policy_toml.specs.Places.{first_of}
+use Rattle.policy_toml.specs.Walks.{over_members, members_at}
+use Rattle.sources_policy.specs.SourcesFile.{faults_at_source_key}
+use Rattle.sources_policy.proofs.faults.note_source_keys.Given as goal
+
+abbrev pub invariant-loop-key : goal.invariant-loop-key
+invariant-loop-key l =
+    (goal.iterator-loop-key).can_next l.key-iterator ×
+    (goal.iterator-loop-key).is_finite l.key-iterator ×
+    (first_of l.faults (over_members (faults_at_source_key l.place) (members_view l.key-iterator)) ≡ first_of l.fn.faults (over_members (faults_at_source_key l.place) (members_view l.source.entries)))

@@ -1,0 +1,69 @@
+//! Lists in byte order of names.
+ghost use Rattle.std.specs.Prelude.{◌≡◌, ◌≤◌, ℕ, List, length, OnOk};
+ghost use Rattle.sources_policy.specs.SourcesFile.{put_by_name, has_name, count_before};
+
+use kumo_base::Memory;
+use policy_core::{Pool, Source};
+
+/// What has a name.
+pub(crate) trait Named {
+    ghost use Rattle.std.specs.Prelude.{ℕ, List};
+
+    ghost name_of: { Self → List ℕ };
+
+    /// The name.
+    fn name(&self) -> &str
+        ensures { result.now ≡ name_of self.now };
+}
+
+impl Named for Source {
+    ghost name_of = { λ s. s.name };
+
+    fn name(&self) -> &str {
+        self.name.as_str()
+    }
+}
+
+impl Named for Pool {
+    ghost name_of = { λ p. p.name };
+
+    fn name(&self) -> &str {
+        self.name.as_str()
+    }
+}
+
+/// Puts an item at its place by name, unless there is one of its name. After `Memory` the list is as it was.
+pub(crate) fn put_by_name<T: Named + Drop>(items: &mut Vec<T>, item: T) -> Result<(), Memory>
+    ensures { OnOk result (items.new.items ≡ put_by_name T.name_of item items.old.items) }
+{
+    if has_name(items.as_slice(), item.name()) {
+        return Ok(());
+    }
+    let at = count_before(items.as_slice(), item.name());
+    items.insert(at, item)?;
+    Ok(())
+}
+
+/// Whether one of the items has this name.
+fn has_name<T: Named>(items: &[T], name: &str) -> bool
+    ensures { result ≡ has_name T.name_of name.now items.now }
+{
+    for item in items {
+        if item.name() == name {
+            return true;
+        }
+    }
+    false
+}
+
+/// How many items at the front have names before this one.
+fn count_before<T: Named>(items: &[T], name: &str) -> usize
+    ensures count { result ≡ count_before T.name_of name.now items.now }
+    ensures within { result ≤ length items.now }
+{
+    let mut count = 0;
+    while count < items.len() && items[count].name() < name {
+        count += 1;
+    }
+    count
+}
