@@ -1,4 +1,4 @@
--- What the devices in memory are seen as.
+-- What the devices with chosen faults are seen as.
 use Rattle.std.specs.Prelude.{ℕ, ◌+◌, ◌-◌, ◌^◌, ◌==◌, min, List, [], ◌∷◌, Bool, Option, Some, None, if◌then◌else◌, bytes_eq}
 use Rattle.std.specs.List.{list_any}
 
@@ -11,6 +11,12 @@ pub record TextShelf : Type 0 where
 
 pub record ByteSink : Type 0 where
   pub bytes : List ℕ
+  pub failing : List ℕ
+  pub calls : ℕ
+  pub faults : ℕ
+
+-- the same of a search, which keeps nothing else
+pub record SearchState : Type 0 where
   pub failing : List ℕ
   pub calls : ℕ
   pub faults : ℕ

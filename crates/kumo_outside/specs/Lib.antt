@@ -1,3 +1,5 @@
 pub mod Told
 pub mod Sessions
 pub mod Devices
+pub mod Search
+pub mod Reading

@@ -1,9 +1,9 @@
 -- What a mail text comes to, where it is read no further than one byte past the limit.
 use Rattle.std.proofs.Common.{◌≡◌, ℕ, ◌<◌, nat_lt, List, length, true, refl, sym, ap, ◌∙◌, arith, inl, inr}
 use Rattle.std.proofs.lemmas.Bool.Decides.{nat_tests}
-use Rattle.kumo_run.specs.declared.text_reader.TheConstants.{TEXT_LIMIT}
+use Rattle.kumo_outside.specs.declared.text_reader.TheConstants.{TEXT_LIMIT}
 use Rattle.kumo_run.specs.Given.{too_long, given_by}
-use Rattle.kumo_run.specs.Reading.{IsReadUpTo}
+use Rattle.kumo_outside.specs.Reading.{IsReadUpTo}
 
 long : (text : List ℕ) → TEXT_LIMIT < length text → given_by text ≡ too_long
 unfolding given_by

@@ -5,10 +5,10 @@ use Rattle.std.proofs.lemmas.Result.{IfOk-weaker}
 use Rattle.policy_core.specs.declared.fault.Ignored.{Ignored}
 use Rattle.policy_core.specs.declared.fault.PolicyFile.{PolicyFile}
 use Rattle.policy_toml.specs.declared.fault.Fault.{Fault}
-use Rattle.kumo_run.specs.declared.text_reader.TheConstants.{TEXT_LIMIT}
+use Rattle.kumo_outside.specs.declared.text_reader.TheConstants.{TEXT_LIMIT}
 use Rattle.kumo_run.specs.declared.refusal.Refusal.{Refusal}
 use Rattle.kumo_run.specs.declared.refusal.Refusal.TheVariants as refusal
-use Rattle.kumo_run.specs.Reading.{IsReadUpTo}
+use Rattle.kumo_outside.specs.Reading.{IsReadUpTo}
 use Rattle.kumo_run.specs.PolicyText.{Found, is_long, gives, found, Comes}
 use Rattle.kumo_run.specs.PolicyReading.{IsMisread, IsUnread}
 

@@ -2,7 +2,7 @@
 use Rattle.std.specs.Prelude.{◌≡◌, ℕ, ◌<◌, nat_lt, List, length, if◌then◌else◌}
 use Rattle.queue_name.specs.declared.message.Message.{Message}
 use Rattle.mail_input.specs.Inputs.{Mail, messages, mail_of}
-use Rattle.kumo_run.specs.declared.text_reader.TheConstants.{TEXT_LIMIT}
+use Rattle.kumo_outside.specs.declared.text_reader.TheConstants.{TEXT_LIMIT}
 
 -- it has more bytes than are read, or it gives what the definition of a mail text says
 pub data Given : Type 0 where

@@ -1,7 +1,6 @@
 pub mod Words
 pub mod StatusCode
 pub mod RefusalLine
-pub mod Reading
 pub mod Given
 pub mod Steps
 pub mod Delivery

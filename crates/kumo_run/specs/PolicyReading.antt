@@ -37,3 +37,4 @@ IsUnread file read refusal.NotYetReply told before after = ⊥
 abbrev pub policy_refusal : PolicyFault → Refusal
 policy_refusal (fault.At file table key why) = refusal.Policy file table key why
 policy_refusal fault.Memory = refusal.Memory
+policy_refusal fault.Search = refusal.Memory

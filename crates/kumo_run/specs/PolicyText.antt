@@ -2,8 +2,8 @@
 use Rattle.std.specs.Prelude.{◌≡◌, ℕ, nat_lt, List, length, Option, Result, Ok, Err, IfSome, if◌then◌else◌}
 use Rattle.policy_core.specs.declared.fault.PolicyFile.{PolicyFile}
 use Rattle.policy_toml.specs.declared.fault.Fault.{Fault}
-use Rattle.policy_toml.specs.Places.{named}
-use Rattle.kumo_run.specs.declared.text_reader.TheConstants.{TEXT_LIMIT}
+use Rattle.policy_toml.specs.Places.{named_with}
+use Rattle.kumo_outside.specs.declared.text_reader.TheConstants.{TEXT_LIMIT}
 use Rattle.kumo_run.specs.declared.refusal.Refusal.{Refusal}
 use Rattle.kumo_run.specs.declared.refusal.Refusal.TheVariants as refusal
 
@@ -26,4 +26,4 @@ Comes read told what = IfSome told (λ text. found read text ≡ what)
 
 -- the refusal that a fault of a file comes to
 abbrev pub refused_at : PolicyFile → Fault → Refusal
-refused_at file f = refusal.Policy file (named f.table) f.key f.why
+refused_at file f = refusal.Policy file (named_with f.table f.number) f.key f.why

@@ -9,9 +9,8 @@ ghost use Rattle.kumo_run.specs.Checking.{IsReport, IsChecked, StopsCheck, Sourc
 
 use crate::refusal::Refusal;
 use crate::report::report;
-use crate::text_reader::{ReadTextFault, TEXT_LIMIT, read_text};
 use kumo_base::Memory;
-use kumo_outside::Texts;
+use kumo_outside::{ReadTextFault, TEXT_LIMIT, Texts, read_text};
 use policy_core::{Ignored, PolicyFault};
 use queues_policy::read_queues;
 use sources_policy::read_sources;
@@ -149,6 +148,7 @@ fn policy_refusal(fault: PolicyFault) -> Refusal
             key,
             why,
         },
-        PolicyFault::Memory => Refusal::Memory,
+        // no search engine is asked by these readers, so that `Search` never comes
+        PolicyFault::Search | PolicyFault::Memory => Refusal::Memory,
     }
 }

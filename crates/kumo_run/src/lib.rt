@@ -15,7 +15,6 @@ mod rows;
 mod run;
 mod scripted_peer;
 mod status;
-mod text_reader;
 mod words;
 mod work;
 

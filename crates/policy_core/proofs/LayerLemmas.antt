@@ -2,7 +2,9 @@
 use Rattle.std.proofs.Common.{◌≡◌, List, [], ◌∷◌, ◌++◌, Option, Some, None, unwrap_or, refl, ap, ◌∙◌}
 use Rattle.std.specs.Option.{option_or}
 use Rattle.policy_core.specs.Layers.{last_set, value_in, settings_in, laid_over}
+use Rattle.policy_core.specs.PathOptions.{options_in, options_over}
 use Rattle.policy_core.specs.declared.settings.Layer.{Layer}
+use Rattle.policy_core.specs.declared.options.Options.{Options}
 use Rattle.policy_core.specs.declared.settings.TheConstants.{DEFAULT_MAX_AGE, DEFAULT_RETRY_INTERVAL, UNSPECIFIED}
 
 or_none : {V : Type 0} (a : Option V) → a ≡ option_or a None
@@ -31,3 +33,15 @@ value_in-push option layers layer default =
 pub settings_in-push : (layers : List Layer) (layer : Layer) → settings_in (layers ++ layer ∷ []) ≡ laid_over (settings_in layers) layer
 settings_in-push layers layer =
     rw (value_in-push (λ l. l.max_age) layers layer DEFAULT_MAX_AGE, value_in-push (λ l. l.retry_interval) layers layer DEFAULT_RETRY_INTERVAL, last_set-push (λ l. l.max_retry_interval) layers layer, value_in-push (λ l. l.pool) layers layer UNSPECIFIED.now) refl
+
+pub options_in-push : (layers : List Options) (layer : Options) → options_in (layers ++ layer ∷ []) ≡ options_over (options_in layers) layer
+options_in-push layers layer =
+    rw (
+      last_set-push (λ o. o.connection_limit) layers layer,
+      last_set-push (λ o. o.max_message_rate) layers layer,
+      last_set-push (λ o. o.max_connection_rate) layers layer,
+      last_set-push (λ o. o.max_deliveries_per_connection) layers layer,
+      last_set-push (λ o. o.max_ready) layers layer,
+      last_set-push (λ o. o.failures_before_delay) layers layer,
+    )
+    refl

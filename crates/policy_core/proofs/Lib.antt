@@ -1,2 +1,6 @@
 pub mod LayerLemmas
+pub mod MxLemmas
+pub mod PoolLemmas
+pub mod ServedLemmas
+pub mod SiteLemmas
 pub mod RotationLemmas

@@ -11,6 +11,12 @@ pub(crate) trait TryCopy {
         ensures { IfOk result (λ copy. copy ≡ self.now) };
 }
 
+impl TryCopy for Text {
+    fn try_copy(&self, alloc: Global) -> Result<Text, Memory> {
+        self.copy(alloc)
+    }
+}
+
 /// A list of equal items in the same order.
 pub(crate) fn copy_items<T: TryCopy + Drop>(
     alloc: Global,

@@ -83,6 +83,8 @@ pub enum PolicyFault {
         key: Text,
         why: Why,
     },
+    /// The search engine failed on a pattern of a shaping file, and counted a fault. No other reader answers it.
+    Search,
     /// There was no memory.
     Memory,
 }
@@ -171,6 +173,7 @@ impl PolicyFault {
                 key: key.copy(alloc)?,
                 why: *why,
             }),
+            PolicyFault::Search => Ok(PolicyFault::Search),
             PolicyFault::Memory => Ok(PolicyFault::Memory),
         }
     }

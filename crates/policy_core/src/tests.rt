@@ -1,4 +1,8 @@
-//! Each copy once, and the words of printed lines.
+//! Each copy once, and the words of printed lines. Paths, shaping and policies have modules of their own.
+mod paths;
+mod policies;
+mod shaping;
+
 use crate::{
     DomainQueues, Entrant, Ignored, Layer, NamedLayer, PolicyFault, PolicyFile, Pool, Queues,
     Settings, Source, Sources, TenantQueues, Why,
@@ -153,7 +157,7 @@ fn faults_are_copied(rt: HostRuntime) -> Result<(), Fail> {
             assert_eq!(rt; key.as_str(), "egress_pool");
             assert_eq!(rt; why.name(), "UnknownPool");
         }
-        PolicyFault::Memory => assert!(rt; false),
+        PolicyFault::Search | PolicyFault::Memory => assert!(rt; false),
     }
     let ignored = Ignored {
         file: PolicyFile::Shaping,

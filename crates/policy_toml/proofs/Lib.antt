@@ -1,1 +1,4 @@
 pub mod Faults
+pub mod DomainLemmas
+pub mod PlaceLemmas
+pub mod FirstLemmas

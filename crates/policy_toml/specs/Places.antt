@@ -1,6 +1,7 @@
 -- The places of faults in a TOML file. Where a file has several faults, the first by place is reported: by the keys of its
--- table joined by `.`, then by its key, then by the order of the refusals.
-use Rattle.std.specs.Prelude.{ℕ, ◌==◌, List, [], ◌∷◌, ◌++◌, length, Bool, Option, Some, None, if◌then◌else◌}
+-- table joined by `.`, then, for tables in a list, by their place there, then by its key, then, in a value that is a list,
+-- by the place there, then by the order of the refusals.
+use Rattle.std.specs.Prelude.{ℕ, ◌==◌, List, [], ◌∷◌, ◌++◌, length, decimal, Option, Some, None, if◌then◌else◌}
 use Rattle.std.specs.declared.cmp.Ordering.{Ordering}
 use Rattle.std.specs.Ordering.{nat_cmp, ordering_then, is_lt}
 use Rattle.std.specs.Cmp.Lexicographic.{slice_cmp}
@@ -15,14 +16,19 @@ use Rattle.policy_toml.specs.declared.fault.TheConstants.{WHOLE_TABLE}
 abbrev pub joined : List ℕ → List ℕ → List ℕ
 joined table key = if length table == 0 then key else table ++ 46 ∷ key
 
+-- a fault in a table of a list, and at an item of a value that is a list. Both are counted from 1; 0 says that there is none
+abbrev pub fault_in : List ℕ → ℕ → List ℕ → ℕ → Why → Fault
+fault_in table number key item why = record { table = table; number = number; key = key; item = item; why = why }
+
 abbrev pub fault : List ℕ → List ℕ → Why → Fault
-fault table key why = record { table = table; key = key; why = why }
+fault table key why = fault_in table 0 key 0 why
 
 -- the key of a fault of a table as a whole, and the name of the top level
 abbrev pub whole_table : List ℕ
 whole_table = WHOLE_TABLE.now
 
 -- the order of the refusals that one key may meet
+-- it serves all files: a shaping file lists BadDuration behind BadAction, but at its `duration` no other word but BadType stands
 abbrev pub rank_of : Why → ℕ
 rank_of why.NotToml = 0
 rank_of why.BadType = 1
@@ -51,7 +57,9 @@ rank_of why.Unsorted = 22
 abbrev pub fault_cmp : Fault → Fault → Ordering
 fault_cmp a b =
     ordering_then (slice_cmp nat_cmp a.table b.table)
-    (ordering_then (slice_cmp nat_cmp a.key b.key) (nat_cmp (rank_of a.why) (rank_of b.why)))
+    (ordering_then (nat_cmp a.number b.number)
+    (ordering_then (slice_cmp nat_cmp a.key b.key)
+    (ordering_then (nat_cmp a.item b.item) (nat_cmp (rank_of a.why) (rank_of b.why)))))
 
 -- the fault that comes first, of one that may be there and another
 abbrev pub earlier : Option Fault → Fault → Fault
@@ -66,6 +74,13 @@ first_of best (f ∷ faults) = first_of (Some (earlier best f)) faults
 -- the name of a table where it is reported, which is `-` for the top level
 abbrev pub named : List ℕ → List ℕ
 named table = if length table == 0 then whole_table else table
+
+-- the name of a table in a list, with its number there
+abbrev pub numbered : List ℕ → ℕ → List ℕ
+numbered table number = table ++ 46 ∷ decimal number
+
+abbrev pub named_with : List ℕ → ℕ → List ℕ
+named_with table number = if number == 0 then named table else numbered table number
 
 -- where a key without effect stands
 abbrev pub ignored_at : PolicyFile → List ℕ → List ℕ → Ignored

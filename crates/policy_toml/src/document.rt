@@ -67,7 +67,9 @@ fn refused_whole(alloc: Global, file: PolicyFile) -> PolicyFault
     };
     let fault = Fault {
         table: Text::new(alloc),
+        number: 0,
         key,
+        item: 0,
         why: Why::NotToml,
     };
     fault.reported(alloc, file)

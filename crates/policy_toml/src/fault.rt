@@ -1,13 +1,14 @@
 //! The faults of a file, of which one is reported.
-ghost use Rattle.std.specs.Prelude.{◌≡◌, ◌∷◌, ℕ, List, [], Option, Some, None, IfOk, OnOk, OnErr};
+ghost use Rattle.std.specs.Prelude.{◌≡◌, ◌∷◌, ◌==◌, ℕ, List, [], Option, Some, None, IfOk, OnOk, OnErr};
 ghost use Rattle.std.specs.Ordering.{is_lt};
-ghost use Rattle.policy_toml.specs.Places.{first_of, fault, fault_cmp, rank_of, named};
+ghost use Rattle.policy_toml.specs.Places.{first_of, fault, fault_cmp, rank_of, fault_in, named, named_with, numbered};
 ghost use Rattle.policy_toml.specs.Reports.{IsReport};
 ghost use Rattle.policy_toml.specs.Walks.{faults_unless_table};
 ghost use Rattle.toml.specs.Data.{get_member};
 ghost use Rattle.toml.specs.View.{table_view};
 
 use crate::document::{entry, is_table};
+use itoa::Buffer;
 use kumo_base::{Memory, Text};
 use policy_core::{PolicyFault, PolicyFile, Why};
 use std::alloc::Global;
@@ -22,8 +23,12 @@ pub const WHOLE_TABLE: &str = "-";
 pub struct Fault {
     /// The keys of the table joined by `.`; empty at the top level.
     pub table: Text,
+    /// Where the table is one of a list, its number there, from 1; else 0.
+    pub number: u64,
     /// The key in the table, or `-` where the table as a whole is at fault.
     pub key: Text,
+    /// Where an item of a list at the key is at fault, its number there, from 1; else 0.
+    pub item: u64,
     /// What is wrong there.
     pub why: Why,
 }
@@ -51,19 +56,38 @@ impl FirstFault {
         FirstFault { found: None }
     }
 
-    /// A fault was met. After `Memory` the one that was kept is kept.
+    /// A fault was met at a key of a table that is in no list. After `Memory` the one that was kept is kept.
     pub fn note(&mut self, alloc: Global, table: &str, key: &str, why: Why) -> Result<(), Memory>
         ensures ok { OnOk result (self.new ≡ first_of self.old (fault table.now key.now why ∷ [])) }
         ensures err { OnErr result (self.new ≡ self.old) }
     {
+        self.note_in(alloc, table, 0, key, 0, why)
+    }
+
+    /// A fault was met in a table of this number in a list, at an item of this number in the value at a key. Both count
+    /// from 1; 0 says that there is no list. After `Memory` the one that was kept is kept.
+    pub fn note_in(
+        &mut self,
+        alloc: Global,
+        table: &str,
+        number: u64,
+        key: &str,
+        item: u64,
+        why: Why,
+    ) -> Result<(), Memory>
+        ensures ok { OnOk result (self.new ≡ first_of self.old (fault_in table.now number key.now item why ∷ [])) }
+        ensures err { OnErr result (self.new ≡ self.old) }
+    {
         if let Some(best) = &self.found {
-            if !is_before(table, key, why, best) {
+            if !is_before(table, number, key, item, why, best) {
                 return Ok(());
             }
         }
         let fault = Fault {
             table: Text::of(alloc, table)?,
+            number,
             key: Text::of(alloc, key)?,
+            item,
             why,
         };
         self.found = Some(fault);
@@ -98,12 +122,19 @@ impl FirstFault {
 }
 
 impl Fault {
-    /// The fault as it is reported, of this file. The top level is named `-`.
+    /// The fault as it is reported, of this file. The top level is named `-`, and a table in a list has its number behind
+    /// the name, as `default.automation.2`.
     pub fn reported(self, alloc: Global, file: PolicyFile) -> PolicyFault
         ensures { IsReport file self result }
     {
-        let Fault { table, key, why } = self;
-        match named(alloc, table) {
+        let Fault {
+            table,
+            number,
+            key,
+            why,
+            ..
+        } = self;
+        match named_with(alloc, table, number) {
             Ok(table) => PolicyFault::At {
                 file,
                 table,
@@ -116,6 +147,28 @@ impl Fault {
 }
 
 /// The name of a table in a report.
+fn named_with(alloc: Global, table: Text, number: u64) -> Result<Text, Memory>
+    ensures { IfOk result (λ text. text ≡ named_with table number) }
+{
+    if number == 0 {
+        named(alloc, table)
+    } else {
+        numbered(alloc, table.as_str(), number)
+    }
+}
+
+/// The name of a table of this number in a list, as `default.automation.2`.
+pub fn numbered(alloc: Global, table: &str, number: u64) -> Result<Text, Memory>
+    ensures { IfOk result (λ text. text ≡ numbered table.now number) }
+{
+    let mut digits = Buffer::new();
+    let mut text = Text::of(alloc, table)?;
+    text.push_str(".")?;
+    text.push_str(digits.format(number))?;
+    Ok(text)
+}
+
+/// The name of a table that is in no list.
 fn named(alloc: Global, table: Text) -> Result<Text, Memory>
     ensures { IfOk result (λ text. text ≡ named table) }
 {
@@ -127,13 +180,17 @@ fn named(alloc: Global, table: Text) -> Result<Text, Memory>
 }
 
 /// Whether a fault at this place comes before another.
-fn is_before(table: &str, key: &str, why: Why, other: &Fault) -> bool
-    ensures { result ≡ is_lt (fault_cmp (fault table.now key.now why) other.now) }
+fn is_before(table: &str, number: u64, key: &str, item: u64, why: Why, other: &Fault) -> bool
+    ensures { result ≡ is_lt (fault_cmp (fault_in table.now number key.now item why) other.now) }
 {
     let by_table = table.cmp(other.table.as_str());
+    let by_number = number.cmp(&other.number);
     let by_key = key.cmp(other.key.as_str());
+    let by_item = item.cmp(&other.item);
     let by_rank = rank(why).cmp(&rank(other.why));
-    by_table.then(by_key).then(by_rank).is_lt()
+    by_table
+        .then(by_number.then(by_key.then(by_item.then(by_rank))))
+        .is_lt()
 }
 
 /// The place of a refusal in the order in which those of one key are tried.

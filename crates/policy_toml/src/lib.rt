@@ -6,17 +6,18 @@
 #![tactic(auto)]
 
 mod document;
+mod domains;
 mod fault;
 mod ignored;
-mod names;
+pub mod laws;
+mod order;
 #[cfg(test)]
 mod tests;
 mod values;
 
 pub use document::{entry, is_table, joined, open_document, table_at};
-pub use fault::{Fault, FirstFault, WHOLE_TABLE};
+pub use domains::note_domain;
+pub use fault::{Fault, FirstFault, WHOLE_TABLE, numbered};
 pub use ignored::note_ignored;
-pub use names::{
-    is_campaign_of_some_name, is_domain_of_some_name, is_source_name, is_tenant_of_some_name,
-};
+pub use order::{Named, put_by_name};
 pub use values::{duration_at, text_at};

@@ -1,11 +1,12 @@
 //! Documents, places and values, each call once.
 use crate::{
-    FirstFault, duration_at, entry, is_campaign_of_some_name, is_domain_of_some_name,
-    is_source_name, is_table, is_tenant_of_some_name, joined, note_ignored, open_document,
-    table_at, text_at,
+    FirstFault, duration_at, entry, is_table, joined, note_domain, note_ignored, numbered,
+    open_document, put_by_name, table_at, text_at,
 };
-use policy_core::{Ignored, PolicyFault, PolicyFile, Why};
+use kumo_base::Text;
+use policy_core::{Ignored, PolicyFault, PolicyFile, Source, Why};
 use std::alloc::Global;
+use std::collections::BTreeSet;
 use std::process::Abort;
 use std::test::Fail;
 use toml::Table;
@@ -55,7 +56,7 @@ fn values_are_read(rt: HostRuntime) -> Result<(), Fail> {
 /// Whether bytes are refused as no document.
 fn is_refused(alloc: Global, bytes: &[u8]) -> bool {
     match open_document(alloc, PolicyFile::Queues, bytes) {
-        Ok(_) | Err(PolicyFault::Memory) => false,
+        Ok(_) | Err(PolicyFault::Search | PolicyFault::Memory) => false,
         Err(
             PolicyFault::At {
                 table,
@@ -93,7 +94,7 @@ fn first_of_places(
                 (PolicyFile::Queues, first.0, first.1, first.2)
             );
         }
-        PolicyFault::Memory => return Err(Fail::new("memory")),
+        PolicyFault::Search | PolicyFault::Memory => return Err(Fail::new("memory")),
     }
     Ok(())
 }
@@ -143,9 +144,70 @@ fn names_and_places_are_told(rt: HostRuntime) -> Result<(), Fail> {
     let mut ignored: Vec<Ignored> = Vec::new(alloc);
     note_ignored(alloc, &mut ignored, PolicyFile::Sources, "", "a")?;
     assert_eq!(rt; ignored.as_slice()[0].table.as_str(), "-");
-    assert!(rt; is_source_name("ip-1") && !is_source_name("a>b") && !is_source_name(""));
-    assert!(rt; is_domain_of_some_name("a.example") && !is_domain_of_some_name("A.example"));
-    assert!(rt; is_tenant_of_some_name("T 1") && !is_tenant_of_some_name("t@d"));
-    assert!(rt; is_campaign_of_some_name("C") && !is_campaign_of_some_name("c:"));
+    assert_eq!(rt;
+        numbered(alloc, "default.automation", 12)?.as_str(),
+        "default.automation.12"
+    );
+    Ok(())
+}
+
+/// Notes a fault at an item of a list in a table of a list.
+fn note_item(alloc: Global, faults: &mut FirstFault, number: u64, item: u64) -> Result<(), Fail> {
+    faults.note_in(
+        alloc,
+        "x.automation",
+        number,
+        "regex",
+        item,
+        Why::BadPattern,
+    )?;
+    Ok(())
+}
+
+#[test]
+fn numbers_in_lists_decide_as_numbers(rt: HostRuntime) -> Result<(), Fail> {
+    let alloc = rt.alloc();
+    let mut faults = FirstFault::new();
+    note_item(alloc, &mut faults, 10, 1)?;
+    note_item(alloc, &mut faults, 2, 10)?;
+    note_item(alloc, &mut faults, 2, 3)?;
+    let fault = faults.into_fault().ok_or("no fault")?;
+    assert_eq!(rt; (fault.number, fault.item), (2, 3));
+    match fault.reported(alloc, PolicyFile::Shaping) {
+        PolicyFault::At { table, key, .. } => {
+            assert_eq!(rt; (table.as_str(), key.as_str()), ("x.automation.2", "regex"));
+        }
+        PolicyFault::Search | PolicyFault::Memory => return Err(Fail::new("memory")),
+    }
+    Ok(())
+}
+
+fn source(alloc: Global, name: &str) -> Result<Source, Fail> {
+    Ok(Source {
+        name: Text::of(alloc, name)?,
+        ehlo: Text::of(alloc, "localhost")?,
+    })
+}
+
+#[test]
+fn domains_are_met_and_items_placed(rt: HostRuntime) -> Result<(), Fail> {
+    let alloc = rt.alloc();
+    let mut faults = FirstFault::new();
+    let mut met: BTreeSet<String> = BTreeSet::new(alloc);
+    for key in ["A.example", "B.example", "a.example"] {
+        note_domain(alloc, &mut faults, &mut met, "", key)?;
+    }
+    let fault = faults.into_fault().ok_or("no fault")?;
+    assert_eq!(rt;
+        (fault.table.as_str(), fault.why),
+        ("a.example", Why::Twice)
+    );
+    let mut items: Vec<Source> = Vec::new(alloc);
+    for name in ["b", "a", "c"] {
+        put_by_name(&mut items, source(alloc, name)?)?;
+    }
+    for (item, name) in items.iter().zip(["a", "b", "c"]) {
+        assert_eq!(rt; item.name.as_str(), name);
+    }
     Ok(())
 }

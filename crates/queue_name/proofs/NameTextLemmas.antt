@@ -1,8 +1,8 @@
 -- Names and their spellings: what is read is a name and spells the text.
-use Rattle.std.proofs.Common.{◌≡◌, ◌<◌, ◌≤◌, ◌+◌, ℕ, List, [], ◌∷◌, ◌++◌, Bool, true, false, not, ◌==◌, ◌||◌, ◌&&◌, cond, nat_le, nat_lt, length, Option, Some, None, refl, sym, ap, ◌∙◌, arith, subst, ne_eqb, IsTrue, Result, Ok, Err}
+use Rattle.std.proofs.Common.{◌≡◌, ◌≤◌, ℕ, List, [], ◌∷◌, ◌++◌, Bool, true, false, not, ◌==◌, ◌||◌, ◌&&◌, cond, nat_le, nat_lt, length, Option, Some, None, refl, sym, ap, ◌∙◌, arith, subst, ne_eqb, IsTrue, Result, Ok, Err}
 use Rattle.std.proofs.lemmas.List.{append_assoc, append-nil}
 use Rattle.std.proofs.lemmas.List.Folds.{list_any-append}
-use Rattle.std.proofs.lemmas.Bool.{or_parts, or_left, or_right, and_parts, le-leb}
+use Rattle.std.proofs.lemmas.Bool.{or_parts, or_left, or_right, le-leb}
 use Rattle.std.specs.List.{list_any, list_all, before_first, after_first, position}
 use Rattle.queue_name.specs.Address.{is_at}
 use Rattle.queue_name.specs.QueueName.{Name, is_component_byte, is_domain_byte, is_component, is_domain, is_name, spelling, spelled, is_optional_component}

@@ -1,5 +1,5 @@
 -- The test of a message's rules.
-use Rattle.std.proofs.Common.{◌≡◌, ◌<◌, ◌≤◌, ◌^◌, ◌↔◌, ◌&&◌, ◌||◌, ◌==◌, ◌⊎◌, inl, inr, ℕ, List, [], ◌∷◌, Bool, true, false, nat_le, length, refl, sym, ap, ◌∙◌, arith, bytes_eq, IsTrue}
+use Rattle.std.proofs.Common.{◌≡◌, ◌<◌, ◌^◌, ◌↔◌, ◌&&◌, ◌||◌, ◌==◌, ◌⊎◌, inl, inr, ℕ, List, [], ◌∷◌, Bool, true, nat_le, length, refl, ap, arith, bytes_eq, IsTrue}
 use Rattle.std.proofs.lemmas.Bool.{and_parts, or_cases, or_left, or_right, le-leb, leb-true}
 use Rattle.std.proofs.lemmas.Bool.Decides.{nat_tests}
 use Rattle.queue_name.specs.Address.{is_address, domain_of}

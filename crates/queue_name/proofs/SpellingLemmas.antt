@@ -1,17 +1,16 @@
 -- The spelling of a name is read, and gives the name.
-use Rattle.std.proofs.Common.{◌≡◌, ◌<◌, ◌≤◌, ◌+◌, ℕ, List, [], ◌∷◌, ◌++◌, Bool, true, false, not, ◌==◌, ◌||◌, ◌&&◌, cond, nat_le, nat_lt, length, Option, Some, None, Ok, refl, sym, ap, ◌∙◌, arith, ne_eqb, IsTrue, Result, Err}
+use Rattle.std.proofs.Common.{◌≡◌, ℕ, List, [], ◌∷◌, ◌++◌, Bool, true, false, not, ◌==◌, ◌||◌, ◌&&◌, cond, nat_le, nat_lt, length, Option, Some, None, Ok, refl, sym, ap, ◌∙◌, arith, ne_eqb, IsTrue, Result, Err}
 use Rattle.std.proofs.lemmas.List.{append_assoc, append-nil}
 use Rattle.std.proofs.lemmas.List.Folds.{list_any-append}
 use Rattle.std.proofs.lemmas.Bool.{or_from, or_right, and_parts, leb-true}
 use Rattle.std.proofs.lemmas.Bool.Decides.{nat_tests}
-use Rattle.std.specs.List.{list_any, list_all, before_first, after_first, position}
+use Rattle.std.specs.List.{list_any, list_all, before_first, after_first}
 use Rattle.queue_name.specs.Address.{is_at}
-use Rattle.queue_name.specs.QueueName.{Name, is_component_byte, is_domain_byte, is_component, is_domain, is_name, spelling, spelled, is_optional_component}
-use Rattle.queue_name.specs.NameText.{is_colon, is_exclamation, is_control, is_capital, is_bad, bad_from, bad_byte, if_any, components_around_at, components_by, components, has_empty, is_empty_component, name_in}
+use Rattle.queue_name.specs.QueueName.{Name, is_component_byte, is_domain_byte, is_component, is_domain, is_name, spelling, spelled}
+use Rattle.queue_name.specs.NameText.{is_colon, is_exclamation, is_control, is_capital, is_bad, bad_from, bad_byte, if_any, components_around_at, components, has_empty, is_empty_component, name_in}
 use Rattle.queue_name.specs.declared.parse.NameFault.{NameFault}
 use Rattle.queue_name.specs.declared.name.TheConstants.{NAME_LIMIT}
 use Rattle.queue_name.proofs.CutLemmas.{cut_is, no_place}
-use Rattle.queue_name.proofs.NameTextLemmas.{spelled_is}
 
 -- no byte of the four kinds
 abbrev Plain : ℕ → Type 0

@@ -3,3 +3,4 @@ pub mod Address
 pub mod Message
 pub mod NameText
 pub mod Criteria
+pub mod Components

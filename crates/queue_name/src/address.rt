@@ -6,6 +6,7 @@ ghost use Rattle.std.specs.Str.{str_to_ascii_lowercase};
 ghost use Rattle.queue_name.specs.Address.{is_address, is_address_byte, is_at, is_routed_domain, domain_of};
 ghost use Rattle.queue_name.specs.QueueName.{is_domain_byte, is_name};
 
+use crate::component::is_domain_byte;
 use crate::message::ADDRESS_LIMIT;
 use kumo_base::{Memory, Text};
 use std::alloc::Global;
@@ -106,18 +107,6 @@ fn is_free_of_marks(domain: &[u8]) -> bool
     ensures { result ≡ list_all (λ b. not (to_ascii_lowercase b == 62) && not (to_ascii_lowercase b == 124) && not (to_ascii_lowercase b == 61)) domain.now }
 {
     domain.iter().all(|b| is_no_mark(b.to_ascii_lowercase()))
-}
-
-/// Whether a byte may stand in the domain of a name.
-fn is_domain_byte(byte: u8) -> bool
-    ensures { result ≡ is_domain_byte byte }
-{
-    byte >= 32
-        && byte != 127
-        && byte != b'@'
-        && byte != b':'
-        && byte != b'!'
-        && !(b'A' <= byte && byte <= b'Z')
 }
 
 /// Whether a byte is none of `>`, `|` and `=`.

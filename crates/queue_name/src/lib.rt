@@ -2,6 +2,7 @@
 #![tactic(auto)]
 
 mod address;
+mod component;
 mod criteria;
 pub mod laws;
 mod message;
@@ -11,6 +12,7 @@ mod parse;
 mod tests;
 
 pub use address::{domain_of, is_address};
+pub use component::{is_campaign_of_some_name, is_domain_of_some_name, is_tenant_of_some_name};
 pub use criteria::Criteria;
 pub use message::{ADDRESS_LIMIT, BODY_LIMIT, Message};
 pub use name::{NAME_LIMIT, QueueName};

@@ -1,5 +1,8 @@
 //! Names and messages, each call once.
-use crate::{Criteria, Message, NameFault, QueueName};
+use crate::{
+    Criteria, Message, NameFault, QueueName, is_campaign_of_some_name, is_domain_of_some_name,
+    is_tenant_of_some_name,
+};
 use kumo_base::Text;
 use std::alloc::Global;
 use std::test::Fail;
@@ -139,5 +142,13 @@ fn messages_are_proper(rt: HostRuntime) -> Result<(), Fail> {
         let made = message(alloc, sender, domain, Text::new(alloc))?;
         assert_eq!(rt; made.is_proper(), *expected);
     }
+    Ok(())
+}
+
+#[test]
+fn components_are_told(rt: HostRuntime) -> Result<(), Fail> {
+    assert!(rt; is_domain_of_some_name("a.example") && !is_domain_of_some_name("A.example"));
+    assert!(rt; is_tenant_of_some_name("T 1") && !is_tenant_of_some_name("t@d"));
+    assert!(rt; is_campaign_of_some_name("C") && !is_campaign_of_some_name("c:"));
     Ok(())
 }

@@ -1,3 +1,1 @@
 pub mod Layered
-pub mod TwiceLemmas
-pub mod Placed

@@ -1,12 +1,10 @@
 -- What a queues file gives, and its faults: the tables `tenant` and `queue` (KumoMTA's manual, the queues helper).
-use Rattle.std.specs.Prelude.{ℕ, ◌+◌, ◌==◌, List, [], ◌∷◌, ◌++◌, Bool, false, not, ◌&&◌, ◌||◌, Option, None, Result, Ok, Err, bytes_eq, codes, if◌then◌else◌}
-use Rattle.std.specs.List.{list_any, insert}
+use Rattle.std.specs.Prelude.{ℕ, ◌==◌, List, [], ◌∷◌, ◌++◌, Bool, not, ◌&&◌, ◌||◌, Option, None, Result, Ok, Err, bytes_eq, codes, if◌then◌else◌}
 use Rattle.std.specs.Str.{str_to_ascii_lowercase}
-use Rattle.std.specs.Ordering.{nat_cmp, is_lt}
-use Rattle.std.specs.Cmp.Lexicographic.{slice_cmp}
+use Rattle.queue_name.specs.Components.{is_domain_of_some_name, is_tenant_of_some_name, is_campaign_of_some_name}
 use Rattle.toml.specs.Data.{Data, Members, no_members, member, as_table, get_member}
 use Rattle.policy_core.specs.declared.fault.Why.{Why}
-use Rattle.policy_core.specs.declared.fault.Why.TheVariants.{BadType, BadName, Zero, Twice}
+use Rattle.policy_core.specs.declared.fault.Why.TheVariants.{BadType, BadName, Zero}
 use Rattle.policy_core.specs.declared.fault.PolicyFile.TheVariants as file
 use Rattle.policy_core.specs.declared.fault.Ignored.{Ignored}
 use Rattle.policy_core.specs.declared.settings.Layer.{Layer}
@@ -18,7 +16,8 @@ use Rattle.policy_toml.specs.declared.fault.Fault.{Fault}
 use Rattle.policy_toml.specs.Places.{fault, joined, whole_table, ignored_at}
 use Rattle.policy_toml.specs.Values.{text_in, duration_at, document_in}
 use Rattle.policy_toml.specs.Walks.{over_members, on_table, is_table, members_at, faults_unless_table, faults_of_value, value_at}
-use Rattle.policy_toml.specs.Names.{is_domain_of_some_name, is_tenant_of_some_name, is_campaign_of_some_name}
+use Rattle.policy_toml.specs.Domains.{none_met, faults_of_twice}
+use Rattle.policy_toml.specs.Order.{with_named}
 use Rattle.policy_toml.specs.Reports.{reading}
 
 -- the four settings of a layer
@@ -148,39 +147,9 @@ ignored_of_queue key d = on_table (ignored_in_queue (joined (codes "queue") key)
 abbrev pub is_domain_table : List ℕ → Data → Bool
 is_domain_table key d = not (is_default key) && is_table d
 
--- names of domains that were met, by whether a name is among them
-abbrev pub none_met : List ℕ → Bool
-none_met name = false
-
-abbrev pub with_name : List ℕ → (List ℕ → Bool) → List ℕ → Bool
-with_name domain met name = bytes_eq domain name || met name
-
-unfoldable pub met_with : (List ℕ → Bool) → List ℕ → Data → List ℕ → Bool
-met_with met key d = if is_domain_table key d then with_name (str_to_ascii_lowercase key) met else met
-
--- a domain that is equal in lower case to one before it
-unfoldable pub faults_if_met : (List ℕ → Bool) → List ℕ → Data → List Fault
-faults_if_met met key d =
-    if is_domain_table key d && met (str_to_ascii_lowercase key) then fault (joined (codes "queue") key) whole_table Twice ∷ [] else []
-
-abbrev pub faults_of_twice : (List ℕ → Bool) → Members → List Fault
-faults_of_twice met no_members = []
-faults_of_twice met (member key d ms) = faults_if_met met key d ++ faults_of_twice (met_with met key d) ms
-
 -- domains in the order of their names; a file lists them by their names as it spells them
-abbrev pub comes_after : List ℕ → DomainQueues → Bool
-comes_after name x = is_lt (slice_cmp nat_cmp name x.domain)
-
--- how many there are up to and with the last that does not come after a name
-abbrev pub place_by_name : List ℕ → List DomainQueues → ℕ
-place_by_name name [] = 0
-place_by_name name (x ∷ more) = if list_any (λ y. not (comes_after name y)) (x ∷ more) then 1 + place_by_name name more else 0
-
-unfoldable pub with_domain : DomainQueues → List DomainQueues → List DomainQueues
-with_domain d domains = insert domains (place_by_name d.domain domains) d
-
 unfoldable pub with_domain_at : List DomainQueues → List ℕ → Data → List DomainQueues
-with_domain_at done key d = if is_default key then done else on_table (λ t. with_domain (domain_queues key t) done) done (as_table d)
+with_domain_at done key d = if is_default key then done else on_table (λ t. with_named (λ q. q.domain) (domain_queues key t) done) done (as_table d)
 
 abbrev pub with_domains : List DomainQueues → Members → List DomainQueues
 with_domains done no_members = done
@@ -207,7 +176,7 @@ faults_in ms =
     ++ (faults_unless_table [] (codes "queue") (get_member (codes "queue") ms)
     ++ (over_members faults_of_tenant (members_at (codes "tenant") ms)
     ++ (over_members faults_of_queue (members_at (codes "queue") ms)
-    ++ faults_of_twice none_met (members_at (codes "queue") ms))))
+    ++ faults_of_twice is_domain_table (codes "queue") none_met (members_at (codes "queue") ms))))
 
 abbrev pub ignored_at_top : List ℕ → Data → List Ignored
 ignored_at_top key d =

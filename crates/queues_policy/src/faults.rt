@@ -1,19 +1,19 @@
 //! The faults of a queues file.
-ghost use Rattle.std.specs.Prelude.{◌≡◌, [], Bool, IfOk, OnOk, None, codes};
+ghost use Rattle.std.specs.Prelude.{◌≡◌, ℕ, List, [], Bool, IfOk, OnOk, None, codes};
+ghost use Rattle.std.specs.BTreeSet.{contains_text};
 ghost use Rattle.toml.specs.View.{table_view, view};
 ghost use Rattle.policy_toml.specs.Places.{first_of};
 ghost use Rattle.policy_toml.specs.Walks.{over_members};
-ghost use Rattle.queues_policy.specs.QueuesFile.{faults_in, faults_of_tenant, faults_in_tenant, faults_of_queue, faults_in_queue, faults_in_domain_queues, faults_at_domain_key, faults_in_tenant_queues, faults_at_tenant_key, faults_in_campaign, faults_at_plain_key, faults_of_setting, faults_of_name};
+ghost use Rattle.policy_toml.specs.Domains.{none_met, met_with, faults_if_met, faults_of_twice};
+ghost use Rattle.queues_policy.specs.QueuesFile.{faults_in, faults_of_tenant, faults_in_tenant, faults_of_queue, faults_in_queue, faults_in_domain_queues, faults_at_domain_key, faults_in_tenant_queues, faults_at_tenant_key, faults_in_campaign, faults_at_plain_key, faults_of_setting, faults_of_name, is_domain_table};
 
-use crate::twice::note_twice;
-use crate::values::{interval_at, is_default, is_setting};
+use crate::values::{interval_at, is_default, is_domain_table, is_setting};
 use kumo_base::Memory;
 use policy_core::Why;
-use policy_toml::{
-    FirstFault, WHOLE_TABLE, duration_at, is_campaign_of_some_name, is_domain_of_some_name,
-    is_tenant_of_some_name, joined, table_at, text_at,
-};
+use policy_toml::{FirstFault, WHOLE_TABLE, duration_at, joined, note_domain, table_at, text_at};
+use queue_name::{is_campaign_of_some_name, is_domain_of_some_name, is_tenant_of_some_name};
 use std::alloc::Global;
+use std::collections::BTreeSet;
 use toml::{Table, Value};
 
 /// The first fault of the document.
@@ -170,14 +170,14 @@ fn note_queue(
     if is_default(key) {
         note_plain_keys(alloc, faults, place.as_str(), table)?;
     } else {
-        note_domain(alloc, faults, place.as_str(), key, table)?;
+        note_domain_queues(alloc, faults, place.as_str(), key, table)?;
     }
     Ok(())
 }
 
 /// The table of a domain.
 #[tactic(auto, using(policy_toml::proofs::Faults::first_of_append), unfolding(crate::specs::QueuesFile::faults_in_domain_queues))]
-fn note_domain(
+fn note_domain_queues(
     alloc: Global,
     faults: &mut FirstFault,
     place: &str,
@@ -298,5 +298,36 @@ fn note_campaign(
 {
     note_name(alloc, faults, place, is_campaign_of_some_name(campaign))?;
     note_plain_keys(alloc, faults, place, table)?;
+    Ok(())
+}
+
+/// The domains that are equal in lower case to one before them.
+#[tactic(auto, using(policy_toml::proofs::DomainLemmas::twice_step))]
+fn note_twice(alloc: Global, faults: &mut FirstFault, queues: &Table) -> Result<(), Memory>
+    ensures { OnOk result (faults.new ≡ first_of faults.old (faults_of_twice is_domain_table (codes "queue") none_met (table_view queues.now))) }
+{
+    let mut met: BTreeSet<String> = BTreeSet::new(alloc);
+    for (key, value) in queues.iter() {
+        note_if_met(alloc, faults, &mut met, key.as_str(), value)?;
+    }
+    Ok(())
+}
+
+/// A member of the table `queue`: a domain that is equal in lower case to one of those that were met, to whose names its own
+/// is added.
+#[tactic(auto, unfolding(policy_toml::specs::Domains::faults_if_met, policy_toml::specs::Domains::met_with))]
+fn note_if_met(
+    alloc: Global,
+    faults: &mut FirstFault,
+    met: &mut BTreeSet<String>,
+    key: &str,
+    value: &Value,
+) -> Result<(), Memory>
+    ensures faults { OnOk result (faults.new ≡ first_of faults.old (faults_if_met (is_domain_table key.now (view value.now)) (contains_text met.old) (codes "queue") key.now)) }
+    ensures met { OnOk result ((name : List ℕ) → contains_text met.new name ≡ met_with (is_domain_table key.now (view value.now)) (contains_text met.old) key.now name) }
+{
+    if is_domain_table(key, value) {
+        note_domain(alloc, faults, met, "queue", key)?;
+    }
     Ok(())
 }

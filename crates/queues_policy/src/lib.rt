@@ -1,7 +1,7 @@
 //! Reads the queues file, and finds the settings of a queue's name in it (KumoMTA's manual, the queues helper).
 //!
-//! `faults.rt` goes through the document for faults, with `twice.rt` for domains that stand twice, and `ignored.rt` for keys
-//! without effect; `queues.rt` makes the data, and `settings.rt` lays the layers of a name over one another.
+//! `faults.rt` goes through the document for faults, and `ignored.rt` for keys without effect; `queues.rt` makes the data, and
+//! `settings.rt` lays the layers of a name over one another.
 #![tactic(auto)]
 
 ghost use Rattle.std.specs.Prelude.{◌≡◌, Ok, IfOk, IfErr};
@@ -11,12 +11,10 @@ ghost use Rattle.queues_policy.specs.QueuesFile.{queues_file};
 
 mod faults;
 mod ignored;
-mod order;
 mod queues;
 mod settings;
 #[cfg(test)]
 mod tests;
-mod twice;
 mod values;
 
 use policy_core::{Ignored, PolicyFault, PolicyFile, Queues};

@@ -4,11 +4,10 @@ ghost use Rattle.toml.specs.View.{table_view, view};
 ghost use Rattle.policy_toml.specs.Walks.{over_members, members_at};
 ghost use Rattle.queues_policy.specs.QueuesFile.{queues_in, layer_of, named_layer, tenant_layer_at, with_domains, with_domain_at, domain_queues, tenant_at, tenant_queues, campaign_at, inner_table};
 
-use crate::order::put_domain;
 use crate::values::{empty_layer, is_default, is_setting, layer_of};
 use kumo_base::{Items, Memory, Text};
 use policy_core::{DomainQueues, Layer, NamedLayer, Queues, TenantQueues};
-use policy_toml::table_at;
+use policy_toml::{put_by_name, table_at};
 use std::alloc::Global;
 use toml::{Table, Value};
 
@@ -103,7 +102,7 @@ fn put_domain_at(
         return Ok(());
     }
     if let Some(table) = value.as_table() {
-        put_domain(domains, domain_queues(alloc, key, table)?)?;
+        put_by_name(domains, domain_queues(alloc, key, table)?)?;
     }
     Ok(())
 }

@@ -308,7 +308,7 @@ fn faults_are_refused(rt: HostRuntime) -> Result<(), Fail> {
                     "{text}"
                 );
             }
-            Ok(_) | Err(PolicyFault::Memory) => return Err(Fail::new(text)),
+            Ok(_) | Err(PolicyFault::Search | PolicyFault::Memory) => return Err(Fail::new(text)),
         }
     }
     Ok(())

@@ -4,11 +4,11 @@ ghost use Rattle.toml.specs.View.{table_view, view};
 ghost use Rattle.policy_toml.specs.Values.{text_in, duration_at};
 ghost use Rattle.policy_toml.specs.Walks.{value_at, members_at};
 ghost use Rattle.toml.specs.Data.{no_members};
-ghost use Rattle.queues_policy.specs.QueuesFile.{is_interval_key, is_setting, is_default, interval_at, layer_of};
+ghost use Rattle.queues_policy.specs.QueuesFile.{is_interval_key, is_setting, is_default, is_domain_table, interval_at, layer_of};
 
 use kumo_base::{Memory, Text};
 use policy_core::{Layer, Why};
-use policy_toml::{duration_at, entry, text_at};
+use policy_toml::{duration_at, entry, is_table, text_at};
 use std::alloc::Global;
 use toml::{Table, Value};
 
@@ -31,6 +31,13 @@ pub(crate) fn is_default(key: &str) -> bool
     ensures { result ≡ is_default key.now }
 {
     key == "default"
+}
+
+/// Whether a member of the table `queue` is the table of a domain.
+pub(crate) fn is_domain_table(key: &str, value: &Value) -> bool
+    ensures { result ≡ is_domain_table key.now (view value.now) }
+{
+    !is_default(key) && is_table(value)
 }
 
 /// The milliseconds of an interval.

@@ -1,5 +1,5 @@
 -- What a sources file gives, and its faults: the tables `source` and `pool` (KumoMTA's manual, the sources helper).
-use Rattle.std.specs.Prelude.{ℕ, ◌+◌, ℤ, pos, negsuc, ◌==◌, nat_le, nat_lt, List, [], ◌∷◌, ◌++◌, length, Bool, not, ◌&&◌, ◌||◌, Option, Some, None, Result, Ok, Err, is_some, unwrap_or, bytes_eq, codes, if◌then◌else◌}
+use Rattle.std.specs.Prelude.{ℕ, ◌+◌, ℤ, pos, negsuc, nat_le, nat_lt, List, [], ◌∷◌, ◌++◌, length, Bool, ◌&&◌, ◌||◌, Option, Some, None, Result, Ok, Err, is_some, unwrap_or, bytes_eq, codes, if◌then◌else◌}
 use Rattle.std.specs.List.{list_all, list_any, insert}
 use Rattle.std.specs.Ordering.{nat_cmp, is_lt}
 use Rattle.std.specs.Cmp.Lexicographic.{slice_cmp}
@@ -8,6 +8,7 @@ use Rattle.policy_core.specs.declared.fault.Why.{Why}
 use Rattle.policy_core.specs.declared.fault.Why.TheVariants.{BadType, BadName, BadWeight, TooMany, UnknownSource}
 use Rattle.policy_core.specs.declared.fault.PolicyFile.TheVariants as file
 use Rattle.policy_core.specs.declared.fault.Ignored.{Ignored}
+use Rattle.policy_core.specs.Names.{is_source_name}
 use Rattle.policy_core.specs.declared.settings.TheConstants.{UNSPECIFIED}
 use Rattle.policy_core.specs.declared.sources.Source.{Source}
 use Rattle.policy_core.specs.declared.sources.Entrant.{Entrant}
@@ -18,7 +19,6 @@ use Rattle.policy_toml.specs.declared.fault.Fault.{Fault}
 use Rattle.policy_toml.specs.Places.{fault, joined, whole_table, ignored_at}
 use Rattle.policy_toml.specs.Values.{text_in, document_in}
 use Rattle.policy_toml.specs.Walks.{over_members, on_table, is_table, table_at, members_at, faults_unless_table, faults_of_value, value_at}
-use Rattle.policy_toml.specs.Names.{is_source_name}
 use Rattle.policy_toml.specs.Reports.{reading}
 
 -- the argument of EHLO: printable and without blanks

@@ -7,8 +7,8 @@ ghost use Rattle.sources_policy.specs.SourcesFile.{faults_in, faults_of_source, 
 
 use crate::values::{ehlo_at, has_many_entrants, weight_at};
 use kumo_base::Memory;
-use policy_core::{UNSPECIFIED, Why};
-use policy_toml::{FirstFault, WHOLE_TABLE, is_source_name, is_table, joined, table_at};
+use policy_core::{UNSPECIFIED, Why, is_source_name};
+use policy_toml::{FirstFault, WHOLE_TABLE, is_table, joined, table_at};
 use std::alloc::Global;
 use toml::{Table, Value};
 

@@ -1,36 +1,9 @@
 //! Lists in byte order of names.
-ghost use Rattle.std.specs.Prelude.{◌≡◌, ◌≤◌, ℕ, List, length, OnOk};
+ghost use Rattle.std.specs.Prelude.{◌≡◌, ◌≤◌, length, OnOk};
 ghost use Rattle.sources_policy.specs.SourcesFile.{put_by_name, has_name, count_before};
 
 use kumo_base::Memory;
-use policy_core::{Pool, Source};
-
-/// What has a name.
-pub(crate) trait Named {
-    ghost use Rattle.std.specs.Prelude.{ℕ, List};
-
-    ghost name_of: { Self → List ℕ };
-
-    /// The name.
-    fn name(&self) -> &str
-        ensures { result.now ≡ name_of self.now };
-}
-
-impl Named for Source {
-    ghost name_of = { λ s. s.name };
-
-    fn name(&self) -> &str {
-        self.name.as_str()
-    }
-}
-
-impl Named for Pool {
-    ghost name_of = { λ p. p.name };
-
-    fn name(&self) -> &str {
-        self.name.as_str()
-    }
-}
+use policy_toml::Named;
 
 /// Puts an item at its place by name, unless there is one of its name. After `Memory` the list is as it was.
 pub(crate) fn put_by_name<T: Named + Drop>(items: &mut Vec<T>, item: T) -> Result<(), Memory>

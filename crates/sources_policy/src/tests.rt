@@ -21,7 +21,7 @@ fn shown(alloc: Global, text: &str) -> Result<String, Fail> {
             let key = key.as_str();
             Ok(format!(in alloc; "{table} {key} {}", why.name())?)
         }
-        Err(PolicyFault::Memory) => Err(Fail::new("memory")),
+        Err(PolicyFault::Search | PolicyFault::Memory) => Err(Fail::new("memory")),
     }
 }
 

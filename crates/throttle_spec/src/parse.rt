@@ -42,8 +42,8 @@ impl ThrottleSpec {
     }
 }
 
-/// A text without `local:` at its front.
-fn without_local(text: &str) -> &str
+/// A text without `local:` at its front. It says that a limit is kept by this node alone, as every one here is.
+pub fn without_local(text: &str) -> &str
     ensures { result.now ≡ without_word (codes "local:") text.now }
 {
     match text.strip_prefix("local:") {
@@ -128,7 +128,7 @@ fn with_burst(quantity: u64, period: u64, burst: Option<u64>) -> Result<Throttle
 }
 
 /// The milliseconds of a unit from a second to a day.
-fn period_of(unit: &[u8]) -> Option<u64>
+pub fn period_of(unit: &[u8]) -> Option<u64>
     ensures value { result ≡ period_of unit.now }
     ensures some { IfSome result (λ period. 0 < period) }
     ensures limit { IfSome result (λ period. period ≤ LONGEST_PERIOD) }
@@ -145,9 +145,10 @@ fn period_of(unit: &[u8]) -> Option<u64>
     }
 }
 
-/// The number that a text writes, where it is one and not too large.
+/// The number that a text writes in decimal digits, of which two may have a `_` between, where it is one and at most
+/// `GREATEST_QUANTITY`.
 #[tactic(auto, unfolding(crate::specs::ThrottleText::number_of))]
-fn number_in(text: &[u8]) -> Option<u64>
+pub fn number_in(text: &[u8]) -> Option<u64>
     ensures value { result ≡ number_of text.now }
     ensures limit { IfSome result (λ n. n ≤ GREATEST_QUANTITY) }
 {

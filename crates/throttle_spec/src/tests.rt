@@ -1,5 +1,8 @@
 //! Throttle texts as tables, buckets beside the slow program, and windows that are as full as they may be.
-use crate::{Bucket, GREATEST_QUANTITY, LONGEST_PERIOD, ThrottleFault, ThrottleSpec, conforms};
+use crate::{
+    Bucket, GREATEST_QUANTITY, LONGEST_PERIOD, ThrottleFault, ThrottleSpec, conforms, number_in,
+    period_of, without_local,
+};
 use kumo_base::LAST_MOMENT;
 use std::alloc::Global;
 use std::test::Fail;
@@ -209,5 +212,16 @@ fn windows_as_full_as_they_may_be(rt: HostRuntime) -> Result<(), Fail> {
     assert_eq!(rt; count_in(moments.as_slice(), 0, 1001), 2 + 2);
     let more: [u64; 5] = [0, 0, 500, 999, 1000];
     assert!(rt; !conforms(&spec, more.as_slice()));
+    Ok(())
+}
+
+#[test]
+fn parts_of_texts_are_read(rt: HostRuntime) -> Result<(), Fail> {
+    assert_eq!(rt; without_local("local:5"), "5");
+    assert_eq!(rt; without_local("5"), "5");
+    assert_eq!(rt; number_in(b"1_000"), Some(1000));
+    assert_eq!(rt; number_in(b"_1"), None);
+    assert_eq!(rt; period_of(b"min"), Some(60_000));
+    assert_eq!(rt; period_of(b"week"), None);
     Ok(())
 }

@@ -1,10 +1,10 @@
 use Rattle.std.proofs.Common.{◌≡◌, ℕ, List, Option, Some, None, Result, Ok, Err, IfOk, IfErr, IfSome, ◌∙◌}
 use Rattle.std.proofs.lemmas.Result.{IfOk-weaker}
-use Rattle.kumo_run.specs.declared.text_reader.TheConstants.{TEXT_LIMIT}
+use Rattle.kumo_outside.specs.declared.text_reader.TheConstants.{TEXT_LIMIT}
 use Rattle.kumo_run.specs.Given.{Given, given_by}
 use Rattle.kumo_run.specs.declared.refusal.Refusal.{Refusal}
 use Rattle.kumo_run.specs.declared.refusal.Refusal.TheVariants as refusal
-use Rattle.kumo_run.specs.Reading.{IsReadUpTo}
+use Rattle.kumo_outside.specs.Reading.{IsReadUpTo}
 use Rattle.kumo_run.specs.Work.{IsMisread, IsUnread}
 use Rattle.kumo_run.proofs.MailLemmas.{same_given}
 use Rattle.kumo_run.proofs.work.read_messages.Goals as goal

@@ -1,4 +1,4 @@
-use Rattle.std.proofs.Common.{length, ◌-◌, ◌≡◌, ◌≤◌, not, take, drop}
+use Rattle.std.proofs.Common.{length, ◌-◌, ◌≡◌, ◌≤◌, take, drop}
 use Rattle.std.specs.List.{list_any}
 use Rattle.queue_name.specs.Address.{is_at}
 use Rattle.queue_name.specs.NameText.{is_colon, bad_from, bad_byte}

@@ -1,7 +1,7 @@
-use Rattle.std.proofs.Common.{◌≡◌, codes}
-use Rattle.toml.specs.View.{members_view, table_view}
+use Rattle.std.proofs.Common.{◌≡◌}
+use Rattle.toml.specs.View.{members_view}
 use Rattle.policy_toml.specs.Places.{first_of}
-use Rattle.policy_toml.specs.Walks.{over_members, members_at}
+use Rattle.policy_toml.specs.Walks.{over_members}
 use Rattle.sources_policy.specs.SourcesFile.{faults_at_source_key}
 use Rattle.sources_policy.proofs.faults.note_source_keys.Given as goal
 

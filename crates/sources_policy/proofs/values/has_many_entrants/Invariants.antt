@@ -1,4 +1,4 @@
-use Rattle.std.proofs.Common.{◌≡◌, ◌≤◌}
+use Rattle.std.proofs.Common.{◌≡◌}
 use Rattle.toml.specs.View.{members_view}
 use Rattle.sources_policy.specs.SourcesFile.{entrants_of, has_more_than}
 use Rattle.sources_policy.specs.declared.values.TheConstants.{ENTRANT_LIMIT}

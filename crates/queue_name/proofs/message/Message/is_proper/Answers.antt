@@ -1,4 +1,4 @@
-use Rattle.std.proofs.Common.{◌≡◌, ◌^◌, ◌<◌, IsTrue, arith, rules, refl, subst}
+use Rattle.std.proofs.Common.{◌≡◌, ◌^◌, ◌<◌, IsTrue, rules, refl, subst}
 use Rattle.queue_name.specs.QueueName.{is_name}
 use Rattle.queue_name.specs.declared.message.Message.{Message}
 use Rattle.queue_name.proofs.ProperLemmas.{proper_is, keeps_rules}

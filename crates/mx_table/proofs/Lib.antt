@@ -1,0 +1,5 @@
+pub mod NameLemmas
+pub mod WordLemmas
+pub mod HostLemmas
+pub mod JoinLemmas
+pub mod LawLemmas

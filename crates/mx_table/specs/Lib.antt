@@ -1,0 +1,3 @@
+pub mod MxText
+pub mod Causes
+pub mod Joined

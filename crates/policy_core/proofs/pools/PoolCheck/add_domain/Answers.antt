@@ -1,0 +1,8 @@
+use Rattle.std.proofs.Common.{[], ◌∷◌}
+use Rattle.policy_core.proofs.PoolLemmas.{with_then}
+use Rattle.policy_core.proofs.pools.PoolCheck.add_domain.Goals as goal
+
+pub returns : goal.returns
+returns c =
+    rw (← c.as_str-name.ensures, ← c.as_slice.ensures)
+    (with_then c.args.self.now c.add_layer.new.self c.add_tenants.new.self (_ ∷ []) _ c.in_ok-add_layer.ensures c.in_ok-add_tenants.ensures)

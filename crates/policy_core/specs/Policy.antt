@@ -1,0 +1,122 @@
+-- A policy as it is assembled, and what holds of its parts together.
+use Rattle.std.specs.Prelude.{◌≡◌, ℕ, nat_le, List, [], ◌∷◌, ◌++◌, Bool, false, not, ◌&&◌, ◌||◌, Option, Some, None, is_some, if◌then◌else◌, map, bytes_eq, codes, IsTrue, ⊤}
+use Rattle.std.specs.List.{list_all, list_any, filter, flat_map}
+use Rattle.queue_name.specs.QueueName.{Name}
+use Rattle.kumo_base.specs.declared.moment.TheConstants.{LAST_MOMENT}
+use Rattle.policy_core.specs.declared.settings.TheConstants.{UNSPECIFIED}
+use Rattle.policy_core.specs.declared.settings.Layer.{Layer}
+use Rattle.policy_core.specs.declared.queues.NamedLayer.{NamedLayer}
+use Rattle.policy_core.specs.declared.queues.TenantQueues.{TenantQueues}
+use Rattle.policy_core.specs.declared.queues.DomainQueues.{DomainQueues}
+use Rattle.policy_core.specs.declared.queues.Queues.{Queues}
+use Rattle.policy_core.specs.declared.sources.Sources.{Sources}
+use Rattle.policy_core.specs.declared.shaping.Shaping.{Shaping}
+use Rattle.policy_core.specs.declared.mx.MxRow.{MxRow}
+use Rattle.policy_core.specs.declared.fault.PolicyFault.{PolicyFault}
+use Rattle.policy_core.specs.declared.fault.PolicyFault.TheVariants as policy_fault
+use Rattle.policy_core.specs.declared.fault.PolicyFile.TheVariants as file
+use Rattle.policy_core.specs.declared.fault.Why.TheVariants.{UnknownPool}
+use Rattle.policy_core.specs.Layers.{settings_of}
+use Rattle.policy_core.specs.Names.{is_source_name}
+use Rattle.policy_core.specs.Mx.{comes_before, are_hosts_named}
+
+-- the moments at which a run stops, the last of them the horizon: there is one, they do not fall, and none passes the last
+-- moment
+abbrev pub climb_from : ℕ → List ℕ → Bool
+climb_from stop [] = nat_le stop LAST_MOMENT
+climb_from stop (next ∷ more) = nat_le stop next && climb_from next more
+
+unfoldable pub are_stops : List ℕ → Bool
+are_stops [] = false
+are_stops (stop ∷ more) = climb_from stop more
+
+abbrev pub has_pool : Sources → List ℕ → Bool
+has_pool sources name = list_any (λ pool. bytes_eq pool.name name) sources.pools
+
+abbrev pub has_source : Sources → List ℕ → Bool
+has_source sources name = list_any (λ source. bytes_eq source.name name) sources.sources
+
+-- each entrant of each pool names a source
+unfoldable pub are_entrants_sources : Sources → Bool
+are_entrants_sources sources = list_all (λ pool. list_all (λ entrant. has_source sources entrant.source) pool.entrants) sources.pools
+
+unfoldable pub are_sources_named : Sources → Bool
+are_sources_named sources = list_all (λ source. is_source_name source.name) sources.sources
+
+-- queues whose layers name no pool have one as well
+unfoldable pub has_base_pool : Sources → Queues → Bool
+has_base_pool sources queues = is_some queues.base.pool || has_pool sources UNSPECIFIED.now
+
+-- every queue's pool is there
+unfoldable pub IsServed : Sources → Queues → Type 0
+IsServed sources queues = (name : Name) → IsTrue (has_pool sources (settings_of queues name).pool)
+
+pub record Policy : Type 0 where
+  pub sources : Sources
+  pub queues : Queues
+  pub shaping : Shaping
+  pub mx : List MxRow
+  pub stops : List ℕ
+
+-- what holds of the parts of a policy together
+pub record IsPolicy (policy : Policy) : Type 0 where
+  pub stops_are : IsTrue (are_stops policy.stops)
+  pub served : IsServed policy.sources policy.queues
+  pub entrants_are : IsTrue (are_entrants_sources policy.sources)
+  pub sources_named : IsTrue (are_sources_named policy.sources)
+  pub hosts_named : IsTrue (are_hosts_named policy.mx)
+
+-- a layer and the name of the table that it stands in
+pub record PlacedLayer : Type 0 where
+  pub place : List ℕ
+  pub layer : Layer
+
+abbrev pub below : List ℕ → List ℕ → List ℕ
+below place name = place ++ 46 ∷ name
+
+abbrev pub placed : List ℕ → NamedLayer → PlacedLayer
+placed place named = record { place = below place named.name; layer = named.layer }
+
+abbrev pub layers_of_tenant : List ℕ → TenantQueues → List PlacedLayer
+layers_of_tenant place t =
+    record { place = below place t.tenant; layer = t.base } ∷ map (placed (below place t.tenant)) t.campaigns
+
+abbrev pub layers_of_domain : DomainQueues → List PlacedLayer
+layers_of_domain d =
+    let place = below (codes "queue") d.domain in
+    record { place = place; layer = d.base } ∷ flat_map (layers_of_tenant place) d.tenants
+
+-- all layers: for all queues, for tenants, and for domains with all within
+abbrev pub placed_layers : Queues → List PlacedLayer
+placed_layers queues =
+    record { place = codes "queue.default"; layer = queues.base }
+    ∷ (map (placed (codes "tenant")) queues.tenants ++ flat_map layers_of_domain queues.domains)
+
+-- a layer that names a pool that is not there
+abbrev pub lacks_pool : Sources → Option (List ℕ) → Bool
+lacks_pool sources None = false
+lacks_pool sources (Some pool) = not (has_pool sources pool)
+
+-- the first in byte order of a text that may be there and of others
+abbrev pub earlier_text : Option (List ℕ) → List ℕ → List ℕ
+earlier_text None text = text
+earlier_text (Some best) text = if comes_before text best then text else best
+
+abbrev pub least_text : Option (List ℕ) → List (List ℕ) → Option (List ℕ)
+least_text best [] = best
+least_text best (text ∷ more) = least_text (Some (earlier_text best text)) more
+
+-- the places of layers that name a pool that is not there
+abbrev pub places_of_unknown : Sources → List PlacedLayer → List (List ℕ)
+places_of_unknown sources layers = map (λ l. l.place) (filter (λ l. lacks_pool sources l.layer.pool) layers)
+
+-- the first such table by name
+unfoldable pub unknown_pool : Sources → Queues → Option (List ℕ)
+unknown_pool sources queues = least_text None (places_of_unknown sources (placed_layers queues))
+
+-- a refusal other than for memory names that table
+abbrev pub IsUnknownPool : PolicyFault → Option (List ℕ) → Type 0
+IsUnknownPool (policy_fault.At f table key why) unknown =
+    (unknown ≡ Some table) × (policy_fault.At f table key why ≡ policy_fault.At file.Queues table (codes "egress_pool") UnknownPool)
+IsUnknownPool policy_fault.Memory unknown = ⊤
+IsUnknownPool policy_fault.Search unknown = ⊥

@@ -1,0 +1,5 @@
+pub mod ListLemmas
+pub mod Firsts
+pub mod FaultOrder
+pub mod TooMany
+pub mod PatternLemmas

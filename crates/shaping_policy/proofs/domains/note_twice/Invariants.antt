@@ -1,0 +1,13 @@
+use Rattle.std.proofs.Common.{◌≡◌, []}
+use Rattle.std.specs.BTreeSet.{contains_text}
+use Rattle.toml.specs.View.{members_view}
+use Rattle.policy_toml.specs.Places.{first_of}
+use Rattle.policy_toml.specs.Domains.{none_met, faults_of_twice}
+use Rattle.shaping_policy.specs.Faults.{is_domain_table}
+use Rattle.shaping_policy.proofs.domains.note_twice.Given as goal
+
+abbrev pub invariant-loop-key : goal.invariant-loop-key
+invariant-loop-key l =
+    (goal.iterator-loop-key).can_next l.key-iterator ×
+    (goal.iterator-loop-key).is_finite l.key-iterator ×
+    (first_of l.faults (faults_of_twice is_domain_table [] (contains_text l.met) (members_view l.key-iterator)) ≡ first_of l.fn.faults (faults_of_twice is_domain_table [] none_met (members_view l.document.entries)))

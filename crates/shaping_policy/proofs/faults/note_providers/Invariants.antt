@@ -1,0 +1,12 @@
+use Rattle.std.proofs.Common.{◌≡◌}
+use Rattle.toml.specs.View.{members_view}
+use Rattle.policy_toml.specs.Places.{first_of}
+use Rattle.policy_toml.specs.Walks.{over_members}
+use Rattle.shaping_policy.specs.Faults.{faults_of_provider}
+use Rattle.shaping_policy.proofs.faults.note_providers.Given as goal
+
+abbrev pub invariant-loop-name : goal.invariant-loop-name
+invariant-loop-name l =
+    (goal.iterator-loop-name).can_next l.name-iterator ×
+    (goal.iterator-loop-name).is_finite l.name-iterator ×
+    (first_of l.faults (over_members faults_of_provider (members_view l.name-iterator)) ≡ first_of l.fn.faults (over_members faults_of_provider (members_view l.providers.entries)))

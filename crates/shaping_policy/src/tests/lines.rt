@@ -1,0 +1,138 @@
+//! Shaping as text, with a line for each table, rule and key without effect.
+use policy_core::{
+    Action, DomainShape, Ignored, Match, Options, Provider, Rule, Setting, ShapeTable, Shaping,
+    Trigger,
+};
+use std::test::Fail;
+use throttle_spec::ThrottleSpec;
+
+pub(super) fn push_file(
+    out: &mut String,
+    shaping: &Shaping,
+    ignored: &[Ignored],
+) -> Result<(), Fail> {
+    push_shape(out, "default", &shaping.base)?;
+    for provider in shaping.providers.as_slice() {
+        push_provider(out, provider)?;
+    }
+    for domain in shaping.domains.as_slice() {
+        push_domain(out, domain)?;
+    }
+    for key in ignored {
+        let (table, key) = (key.table.as_str(), key.key.as_str());
+        writeln!(out, "ignored {table} {key}")?;
+    }
+    Ok(())
+}
+
+fn push_provider(out: &mut String, provider: &Provider) -> Result<(), Fail> {
+    let name = provider.name.as_str();
+    write!(out, "provider")?;
+    for found in provider.matches.as_slice() {
+        match found {
+            Match::MxSuffix(suffix) => push_words(out, &[" hosts *", suffix.as_str()])?,
+            Match::DomainSuffix(suffix) => push_words(out, &[" domains *", suffix.as_str()])?,
+        }
+    }
+    push_words(out, &[" "])?;
+    push_shape(out, name, &provider.table)
+}
+
+fn push_domain(out: &mut String, domain: &DomainShape) -> Result<(), Fail> {
+    let words = if domain.rollup {
+        "domain "
+    } else {
+        "domain alone "
+    };
+    push_words(out, &[words])?;
+    push_shape(out, domain.domain.as_str(), &domain.table)
+}
+
+fn push_shape(out: &mut String, name: &str, shape: &ShapeTable) -> Result<(), Fail> {
+    push_options(out, name, &shape.options)?;
+    push_rules(out, shape.rules.as_slice())?;
+    for source in shape.sources.as_slice() {
+        push_words(out, &[" source "])?;
+        push_options(out, source.source.as_str(), &source.options)?;
+        push_rules(out, source.rules.as_slice())?;
+    }
+    Ok(())
+}
+
+/// A name and the options that are set there.
+fn push_options(out: &mut String, name: &str, options: &Options) -> Result<(), Fail> {
+    push_words(out, &[name, ":"])?;
+    push_number(out, "limit", options.connection_limit)?;
+    push_rate(out, "messages", options.max_message_rate)?;
+    push_rate(out, "connections", options.max_connection_rate)?;
+    push_number(out, "deliveries", options.max_deliveries_per_connection)?;
+    push_number(out, "ready", options.max_ready)?;
+    push_number(out, "failures", options.failures_before_delay)?;
+    push_words(out, &["\n"])
+}
+
+fn push_number(out: &mut String, name: &str, number: Option<u32>) -> Result<(), Fail> {
+    if let Some(number) = number {
+        write!(out, " {name}={number}")?;
+    }
+    Ok(())
+}
+
+/// A rate as its quantity, its period in milliseconds and its burst.
+fn push_rate(out: &mut String, name: &str, rate: Option<ThrottleSpec>) -> Result<(), Fail> {
+    if let Some(rate) = rate {
+        let (quantity, period, burst) = (rate.quantity(), rate.period(), rate.burst());
+        write!(out, " {name}={quantity}/{period}/{burst}")?;
+    }
+    Ok(())
+}
+
+fn push_rules(out: &mut String, rules: &[Rule]) -> Result<(), Fail> {
+    for rule in rules {
+        push_rule(out, rule)?;
+    }
+    Ok(())
+}
+
+fn push_rule(out: &mut String, rule: &Rule) -> Result<(), Fail> {
+    push_words(out, &[" rule"])?;
+    for pattern in rule.patterns.as_slice() {
+        push_words(out, &[" '", pattern.as_str(), "'"])?;
+    }
+    push_action(out, rule.action)?;
+    match rule.trigger {
+        Trigger::Immediate => push_words(out, &[" each"])?,
+        Trigger::Threshold { count, period } => write!(out, " {count}/{period}")?,
+    }
+    let duration = rule.duration;
+    writeln!(out, " for {duration}")?;
+    Ok(())
+}
+
+fn push_action(out: &mut String, action: Action) -> Result<(), Fail> {
+    match action {
+        Action::Suspend => push_words(out, &[" Suspend"]),
+        Action::SuspendTenant => push_words(out, &[" SuspendTenant"]),
+        Action::SuspendCampaign => push_words(out, &[" SuspendCampaign"]),
+        Action::Set(setting) => push_setting(out, setting),
+        Action::Nothing => push_words(out, &[" Nothing"]),
+    }
+}
+
+fn push_setting(out: &mut String, setting: Setting) -> Result<(), Fail> {
+    match setting {
+        Setting::ConnectionLimit(number) => push_number(out, "limit", Some(number)),
+        Setting::MessageRate(rate) => push_rate(out, "messages", Some(rate)),
+        Setting::ConnectionRate(rate) => push_rate(out, "connections", Some(rate)),
+        Setting::Deliveries(number) => push_number(out, "deliveries", Some(number)),
+        Setting::ReadyLimit(number) => push_number(out, "ready", Some(number)),
+        Setting::FailuresBeforeDelay(number) => push_number(out, "failures", Some(number)),
+    }
+}
+
+pub(super) fn push_words(out: &mut String, words: &[&str]) -> Result<(), Fail> {
+    for word in words {
+        out.push_str(word)?;
+    }
+    Ok(())
+}
