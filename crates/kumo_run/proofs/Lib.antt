@@ -4,5 +4,4 @@ mod SessionLemmas
 pub mod LogLines
 pub mod LogWriting
 mod MailLemmas
-mod PolicyLemmas
-mod SortedLines
+mod PrintingLemmas

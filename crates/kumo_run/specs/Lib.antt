@@ -1,4 +1,3 @@
-pub mod Words
 pub mod StatusCode
 pub mod RefusalLine
 pub mod Given
@@ -6,11 +5,9 @@ pub mod Steps
 pub mod Delivery
 pub mod Working
 pub mod Run
+pub mod Printing
 pub mod Ends
 pub mod LogMembers
 pub mod LogGathered
 pub mod ScriptedPeer
 pub mod Work
-pub mod PolicyText
-pub mod Checking
-pub mod PolicyReading

@@ -3,7 +3,7 @@ use Rattle.std.specs.Prelude.{ℕ, Result, Ok, Err}
 use Rattle.kumo_run.specs.declared.delivery_log.log.LogWriteFault.{LogWriteFault}
 use Rattle.kumo_run.specs.declared.delivery_log.log.LogWriteFault.TheVariants as log
 use Rattle.kumo_run.specs.declared.status.Status.{Status}
-use Rattle.kumo_run.specs.declared.status.Status.TheVariants.{Drained, Usage, Policy, Mail, ReadFault, WriteFault, Limit, Memory, NotYet}
+use Rattle.kumo_run.specs.declared.status.Status.TheVariants.{Drained, Usage, Policy, Mail, ReadFault, WriteFault, Limit, Memory, NotYet, SearchFault}
 
 abbrev pub code_of : Status → ℕ
 code_of Drained = 0
@@ -15,6 +15,7 @@ code_of WriteFault = 6
 code_of Limit = 10
 code_of Memory = 11
 code_of NotYet = 12
+code_of SearchFault = 16
 
 -- the status that the writing of the log leaves
 abbrev pub status_of_log : {T : Type 0} → Result T LogWriteFault → Status

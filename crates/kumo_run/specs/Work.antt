@@ -23,8 +23,10 @@ HasReason refusal.Usage told before after sessions = ⊥
 HasReason (refusal.Policy file table key why) told before after sessions = ⊥
 HasReason (refusal.Mail line why) told before after sessions = Gives told (λ found. found ≡ mail_gives (refused line why))
 HasReason refusal.ReadFault told before after sessions = Rose before after
+HasReason refusal.SearchFault told before after sessions = ⊥
 HasReason refusal.Limit told before after sessions = Gives told (λ found. found ≡ too_long)
 HasReason refusal.Memory told before after sessions = ⊤
+HasReason refusal.NotYetWords told before after sessions = ⊥
 HasReason refusal.NotYetMail told before after sessions = Gives told IsMany
 HasReason refusal.NotYetReply told before after sessions = FallsShort told sessions
 
@@ -39,8 +41,10 @@ IsMisread refusal.Usage found = ⊥
 IsMisread (refusal.Policy file table key why) found = ⊥
 IsMisread (refusal.Mail line why) found = found ≡ mail_gives (refused line why)
 IsMisread refusal.ReadFault found = ⊥
+IsMisread refusal.SearchFault found = ⊥
 IsMisread refusal.Limit found = found ≡ too_long
 IsMisread refusal.Memory found = ⊤
+IsMisread refusal.NotYetWords found = ⊥
 IsMisread refusal.NotYetMail found = ⊥
 IsMisread refusal.NotYetReply found = ⊥
 
@@ -50,8 +54,10 @@ IsUnread refusal.Usage told before after = ⊥
 IsUnread (refusal.Policy file table key why) told before after = ⊥
 IsUnread (refusal.Mail line why) told before after = IfSome told (λ text. given_by text ≡ mail_gives (refused line why))
 IsUnread refusal.ReadFault told before after = Rose before after
+IsUnread refusal.SearchFault told before after = ⊥
 IsUnread refusal.Limit told before after = IfSome told (λ text. given_by text ≡ too_long)
 IsUnread refusal.Memory told before after = ⊤
+IsUnread refusal.NotYetWords told before after = ⊥
 IsUnread refusal.NotYetMail told before after = ⊥
 IsUnread refusal.NotYetReply told before after = ⊥
 
@@ -61,8 +67,10 @@ StopsShort refusal.Usage mail sessions = ⊥
 StopsShort (refusal.Policy file table key why) mail sessions = ⊥
 StopsShort (refusal.Mail line why) mail sessions = ⊥
 StopsShort refusal.ReadFault mail sessions = ⊥
+StopsShort refusal.SearchFault mail sessions = ⊥
 StopsShort refusal.Limit mail sessions = ⊥
 StopsShort refusal.Memory mail sessions = ⊤
+StopsShort refusal.NotYetWords mail sessions = ⊥
 StopsShort refusal.NotYetMail mail sessions = 1 < length mail
 StopsShort refusal.NotYetReply mail sessions =
     (m : Message) × (s : Session) × (mail ≡ m ∷ []) × (sessions ≡ s ∷ []) × IsSessionOf m s × IsNotDelivered m s

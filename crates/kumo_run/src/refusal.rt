@@ -30,10 +30,14 @@ pub enum Refusal {
     },
     /// A text could not be read.
     ReadFault,
+    /// The search engine failed on a pattern of the shaping text.
+    SearchFault,
     /// The text has more bytes than are read.
     Limit,
     /// There was no memory.
     Memory,
+    /// The command, or an option of it, is not built yet.
+    NotYetWords,
     /// The mail holds more messages than are sent so far.
     NotYetMail,
     /// The receiver did not take the message, which is not followed up so far.
@@ -50,9 +54,10 @@ impl Refusal {
             Refusal::Policy { .. } => Status::Policy,
             Refusal::Mail { .. } => Status::Mail,
             Refusal::ReadFault => Status::ReadFault,
+            Refusal::SearchFault => Status::SearchFault,
             Refusal::Limit => Status::Limit,
             Refusal::Memory => Status::Memory,
-            Refusal::NotYetMail | Refusal::NotYetReply => Status::NotYet,
+            Refusal::NotYetWords | Refusal::NotYetMail | Refusal::NotYetReply => Status::NotYet,
         }
     }
 
@@ -85,8 +90,10 @@ fn put_line<O: Sink>(refusal: &Refusal, out: &mut O) -> Result<(), Failed>
         } => put_policy_line(*file, table.as_str(), key.as_str(), *why, out),
         Refusal::Mail { line, why } => put_mail_line(*line, *why, out),
         Refusal::ReadFault => put_text(out, "error: read fault\n"),
+        Refusal::SearchFault => put_text(out, "error: search fault\n"),
         Refusal::Limit => put_text(out, "error: limit text\n"),
         Refusal::Memory => put_text(out, "error: memory\n"),
+        Refusal::NotYetWords => put_text(out, "error: not yet words\n"),
         Refusal::NotYetMail => put_text(out, "error: not yet mail\n"),
         Refusal::NotYetReply => put_text(out, "error: not yet reply\n"),
     }

@@ -4,7 +4,7 @@ use crate::run::perform;
 use crate::scripted_peer::PeerReplies;
 use crate::work::work;
 use kumo_base::{Bytes, Memory, Text};
-use kumo_outside::{MemSink, MemTexts};
+use kumo_outside::{MemSink, MemTexts, RegexSearch};
 use std::alloc::Global;
 use std::test::Fail;
 
@@ -60,17 +60,43 @@ struct Left {
     has_history: bool,
 }
 
-/// Runs the program over these texts and a sink of which these puts fail.
+/// Which calls of the devices fail: puts of the sink, calls of the search.
+#[derive(Clone, Copy)]
+struct Failing<'a> {
+    puts: &'a [u64],
+    searches: &'a [u64],
+}
+
+const NONE_FAILS: Failing<'_> = Failing {
+    puts: &[],
+    searches: &[],
+};
+
+const FIRST_PUT_FAILS: Failing<'_> = Failing {
+    puts: &[1],
+    searches: &[],
+};
+
+/// Runs the program over these texts, a sink and a search.
 fn run(
     alloc: Global,
     words: &[&str],
     named: &[(&str, &[u8])],
-    failing: Vec<u64>,
+    failing: &Failing<'_>,
 ) -> Result<Left, Memory> {
     let words = words_of(alloc, words)?;
     let mut texts = shelf(alloc, named)?;
-    let mut out = MemSink::new(alloc, failing);
-    let finished = perform(alloc, words.as_slice(), &mut texts, &mut out, (), (), ());
+    let mut out = MemSink::new(alloc, Vec::from_slice(alloc, failing.puts)?);
+    let search = RegexSearch::new(alloc, Vec::from_slice(alloc, failing.searches)?);
+    let finished = perform(
+        alloc,
+        words.as_slice(),
+        &mut texts,
+        &mut out,
+        (),
+        (),
+        search,
+    );
     let mut sent = Vec::new(alloc);
     for linker in finished.peers.iter() {
         for session in linker.sessions() {
@@ -86,24 +112,19 @@ fn run(
 }
 
 /// Sends the mail text `m`.
-fn run_send(alloc: Global, mail: &[u8], failing: Vec<u64>) -> Result<Left, Memory> {
-    run(alloc, &["send", "--mail", "m"], &[("m", mail)], failing)
+fn run_send(alloc: Global, mail: &[u8]) -> Result<Left, Memory> {
+    run(alloc, &["send", "--mail", "m"], &[("m", mail)], &NONE_FAILS)
 }
 
 /// Checks the sources file `o` and the queues file `q`.
-fn run_check(
-    alloc: Global,
-    sources: &[u8],
-    queues: &[u8],
-    failing: Vec<u64>,
-) -> Result<Left, Memory> {
+fn run_check(alloc: Global, sources: &[u8], queues: &[u8]) -> Result<Left, Memory> {
     let words = ["check", "--sources", "o", "--queues", "q"];
-    run(alloc, &words, &[("o", sources), ("q", queues)], failing)
+    run(alloc, &words, &[("o", sources), ("q", queues)], &NONE_FAILS)
 }
 
 #[test]
 fn one_message_delivered(rt: HostRuntime) -> Result<(), Fail> {
-    let left = run_send(rt.alloc(), M1.as_bytes(), Vec::new(rt.alloc()))?;
+    let left = run_send(rt.alloc(), M1.as_bytes())?;
     assert_eq!(rt; left.status, 0);
     assert_eq!(rt; left.output.as_slice(), DELIVERED.as_bytes());
     assert_eq!(rt;
@@ -139,7 +160,7 @@ fn statuses_and_lines(rt: HostRuntime) -> Result<(), Fail> {
         (send, TWO.as_bytes(), 12, "error: not yet mail\n"),
     ];
     for (words, mail, status, output) in &rows {
-        let left = run(rt.alloc(), words, &[("m", mail)], Vec::new(rt.alloc()))?;
+        let left = run(rt.alloc(), words, &[("m", mail)], &NONE_FAILS)?;
         assert_eq!(rt; left.status, *status);
         assert_eq!(rt; left.output.as_slice(), output.as_bytes());
         assert_eq!(rt; left.has_history, *status == 0);
@@ -149,16 +170,17 @@ fn statuses_and_lines(rt: HostRuntime) -> Result<(), Fail> {
 
 #[test]
 fn a_sink_that_fails(rt: HostRuntime) -> Result<(), Fail> {
-    let left = run_send(rt.alloc(), M1.as_bytes(), vec![in rt.alloc(); 1]?)?;
+    let send = ["send", "--mail", "m"];
+    let left = run(rt.alloc(), &send, &[("m", M1.as_bytes())], &FIRST_PUT_FAILS)?;
     assert_eq!(rt; left.status, 6);
     assert_eq!(rt; left.output.len(), 0);
     assert!(rt; left.has_history);
     // a refusal stays what it is
-    let left = run(rt.alloc(), &["fly"], &[], vec![in rt.alloc(); 1]?)?;
+    let left = run(rt.alloc(), &["fly"], &[], &FIRST_PUT_FAILS)?;
     assert_eq!(rt; left.status, 2);
     assert_eq!(rt; left.output.len(), 0);
     // a report that is not printed whole
-    let left = run_check(rt.alloc(), b"", b"", vec![in rt.alloc(); 1]?)?;
+    let left = run(rt.alloc(), &["check"], &[], &FIRST_PUT_FAILS)?;
     assert_eq!(rt; left.status, 6);
     assert_eq!(rt; left.output.len(), 0);
     Ok(())
@@ -177,7 +199,7 @@ fn transparency_of_the_body(rt: HostRuntime) -> Result<(), Fail> {
             "{{\"id\":\"00000000000000000000000000000001\",\"created\":0,\"sender\":\"\",\"recipient\":\"u@a.example\",\"body\":\"{body}\"}}"
         )?;
         let expected = format!(in rt.alloc(); "{head}{wire}")?;
-        let left = run_send(rt.alloc(), mail.as_bytes(), Vec::new(rt.alloc()))?;
+        let left = run_send(rt.alloc(), mail.as_bytes())?;
         assert_eq!(rt; left.status, 0);
         assert_eq!(rt; left.sent.as_slice(), expected.as_bytes());
     }
@@ -295,12 +317,179 @@ fn policy_files_are_checked(rt: HostRuntime) -> Result<(), Fail> {
         ),
     ];
     for (sources, queues, status, output) in &rows {
-        let left = run_check(
-            rt.alloc(),
-            sources.as_bytes(),
-            queues.as_bytes(),
-            Vec::new(rt.alloc()),
-        )?;
+        let left = run_check(rt.alloc(), sources.as_bytes(), queues.as_bytes())?;
+        assert_eq!(rt; left.output.as_slice(), output.as_bytes());
+        assert_eq!(rt; left.status, *status);
+        assert!(rt; !left.has_history);
+    }
+    Ok(())
+}
+
+const SHAPING: &str = r#"["default"]
+connection_limit = 10
+max_message_rate = "100/min"
+enable_tls = "Opportunistic"
+[["default".automation]]
+regex = 'too busy'
+action = "Suspend"
+trigger = {Threshold="3/hr"}
+duration = "30 mins"
+[provider."Big"]
+match = [{MXSuffix=".big.example"}]
+max_deliveries_per_connection = 20
+["one.example"]
+connection_limit = 5
+["one.example".sources."ip-1"]
+max_message_rate = "10/s,max_burst=20"
+["two.example"]
+connection_limit = 4
+["solo.example"]
+mx_rollup = false
+"#;
+
+const MX: &str =
+    "one.example mx2.big.example mx1.big.example\ntwo.example mx2.big.example mx1.big.example\nsolo.example mx2.big.example mx1.big.example\n";
+
+const ONE_EXPLAINED: &str = r#"queue one.example
+pool unspecified
+max_age 604800000
+retry_interval 1200000
+max_retry_interval none
+site mx1.big.example|mx2.big.example
+source ip-1
+connection_limit 4
+max_message_rate 10/1000 burst 20
+max_connection_rate none
+max_deliveries_per_connection 20
+max_ready 1024
+consecutive_connection_failures_before_delay 100
+rule 1 Suspend Threshold 3/3600000 for 1800000 on ["too busy"]
+"#;
+
+const SOLO_EXPLAINED: &str = r#"queue solo.example
+pool unspecified
+max_age 604800000
+retry_interval 1200000
+max_retry_interval none
+site solo.example=mx1.big.example|mx2.big.example
+source ip-1
+connection_limit 10
+max_message_rate 100/60000 burst 100
+max_connection_rate none
+max_deliveries_per_connection 20
+max_ready 1024
+consecutive_connection_failures_before_delay 100
+rule 1 Suspend Threshold 3/3600000 for 1800000 on ["too busy"]
+"#;
+
+const TENANT_EXPLAINED: &str = "queue mytenant@one.example
+pool pool0
+max_age 86400000
+retry_interval 1020000
+max_retry_interval none
+site one.example
+source unspecified
+connection_limit 32
+max_message_rate none
+max_connection_rate none
+max_deliveries_per_connection 1024
+max_ready 1024
+consecutive_connection_failures_before_delay 100
+";
+
+/// Runs on the four sample files, named `o`, `q`, `s` and `x`.
+fn run_on_samples(alloc: Global, words: &[&str], failing: &Failing<'_>) -> Result<Left, Memory> {
+    let named: [(&str, &[u8]); 4] = [
+        ("o", SOURCES.as_bytes()),
+        ("q", QUEUES.as_bytes()),
+        ("s", SHAPING.as_bytes()),
+        ("x", MX.as_bytes()),
+    ];
+    run(alloc, words, &named, failing)
+}
+
+#[test]
+fn policies_are_checked_and_explained(rt: HostRuntime) -> Result<(), Fail> {
+    let rows: [(&[&str], u8, &str); 8] = [
+        (
+            &[
+                "explain",
+                "--shaping",
+                "s",
+                "--mx",
+                "x",
+                "--domain",
+                "one.example",
+                "--source",
+                "ip-1",
+            ],
+            0,
+            ONE_EXPLAINED,
+        ),
+        (
+            &[
+                "explain",
+                "--mx=x",
+                "--source=ip-1",
+                "--domain=Solo.Example",
+                "--shaping=s",
+            ],
+            0,
+            SOLO_EXPLAINED,
+        ),
+        (
+            &[
+                "explain",
+                "--sources",
+                "o",
+                "--queues",
+                "q",
+                "--domain",
+                "one.example",
+                "--tenant",
+                "mytenant",
+            ],
+            0,
+            TENANT_EXPLAINED,
+        ),
+        (
+            &["check", "--shaping", "s", "--mx", "x"],
+            0,
+            "ignored shaping default enable_tls\nok\n",
+        ),
+        (
+            &[
+                "check",
+                "--mx",
+                "x",
+                "--queues",
+                "q",
+                "--sources",
+                "o",
+                "--shaping",
+                "s",
+            ],
+            0,
+            "ignored shaping default enable_tls\nignored sources source.ip-1 source_address\nignored sources source.ip-2 source_address\nok\n",
+        ),
+        (
+            &["check", "--queues", "q"],
+            3,
+            "error: policy queues tenant.mytenant egress_pool: UnknownPool\n",
+        ),
+        (
+            &["explain", "--queues", "q", "--domain", "d"],
+            3,
+            "error: policy queues tenant.mytenant egress_pool: UnknownPool\n",
+        ),
+        (
+            &["check", "--shaping", "s", "--mx", "q"],
+            3,
+            "error: policy mx line 1 -: NoHost\n",
+        ),
+    ];
+    for (words, status, output) in &rows {
+        let left = run_on_samples(rt.alloc(), words, &NONE_FAILS)?;
         assert_eq!(rt; left.output.as_slice(), output.as_bytes());
         assert_eq!(rt; left.status, *status);
         assert!(rt; !left.has_history);
@@ -309,30 +498,65 @@ fn policy_files_are_checked(rt: HostRuntime) -> Result<(), Fail> {
 }
 
 #[test]
-fn words_of_check(rt: HostRuntime) -> Result<(), Fail> {
-    let rows: [(&[&str], u8, &str); 5] = [
-        (&["check", "--sources", "o", "--queues", "o"], 0, "ok\n"),
+fn an_unknown_pool_and_a_search_fault(rt: HostRuntime) -> Result<(), Fail> {
+    let left = run_check(rt.alloc(), b"", b"[queue.default]\negress_pool = 'nope'\n")?;
+    assert_eq!(rt; left.status, 3);
+    assert_eq!(rt;
+        left.output.as_slice(),
+        b"error: policy queues queue.default egress_pool: UnknownPool\n".as_slice()
+    );
+    let first_search_fails = Failing {
+        puts: &[],
+        searches: &[1],
+    };
+    let left = run_on_samples(
+        rt.alloc(),
+        &["check", "--shaping", "s"],
+        &first_search_fails,
+    )?;
+    assert_eq!(rt; left.status, 16);
+    assert_eq!(rt; left.output.as_slice(), b"error: search fault\n".as_slice());
+    Ok(())
+}
+
+#[test]
+fn words_of_commands(rt: HostRuntime) -> Result<(), Fail> {
+    let usage = "error: usage\n";
+    let unbuilt = "error: not yet words\n";
+    let rows: [(&[&str], u8, &str); 16] = [
+        (&["check"], 0, "ok\n"),
+        (&["check", "--queues", "e", "--sources", "e"], 0, "ok\n"),
+        (&["check", "--sources", "e", "--queues", "-e"], 2, usage),
         (
-            &["check", "--queues", "o", "--sources", "o"],
-            2,
-            "error: usage\n",
-        ),
-        (&["check"], 2, "error: usage\n"),
-        (
-            &["check", "--sources", "o", "--queues", "-o"],
-            2,
-            "error: usage\n",
-        ),
-        (
-            &["check", "--sources", "o", "--queues", "n"],
+            &["check", "--sources", "e", "--queues", "n"],
             5,
             "error: read fault\n",
         ),
+        (&["check", "--sources", "e", "--sources", "e"], 2, usage),
+        (&["check", "--mail", "e"], 2, usage),
+        (&["explain"], 2, usage),
+        (&["explain", "--domain", "a@b"], 2, usage),
+        (&["send", "--mail=e"], 0, STOPPED),
+        (&["send", "--mail", "e", "--until", "5"], 12, unbuilt),
+        (
+            &["send", "--mail", "e", "--until", "9007199254740992"],
+            2,
+            usage,
+        ),
+        (
+            &["send", "--mail", "e", "--start", "000000000000000000000"],
+            2,
+            usage,
+        ),
+        (&["crew", "--mail", "e", "--workers", "64"], 12, unbuilt),
+        (&["crew", "--mail", "e"], 2, usage),
+        (&["spool"], 12, unbuilt),
+        (&["load", "--seed", "0", "--count", "1"], 12, unbuilt),
     ];
     for (words, status, output) in &rows {
-        let left = run(rt.alloc(), words, &[("o", b"")], Vec::new(rt.alloc()))?;
-        assert_eq!(rt; left.status, *status);
+        let left = run(rt.alloc(), words, &[("e", b"")], &NONE_FAILS)?;
         assert_eq!(rt; left.output.as_slice(), output.as_bytes());
+        assert_eq!(rt; left.status, *status);
     }
     Ok(())
 }

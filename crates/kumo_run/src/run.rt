@@ -1,21 +1,25 @@
-//! The top call: from the words and the bytes of texts to the bytes of the delivery log, or of a report.
-ghost use Rattle.std.specs.Prelude.{◌≡◌, [], None};
+//! The top call: from the words and the bytes of texts to the bytes of the delivery log, or of a text on policies.
+ghost use Rattle.std.specs.Prelude.{◌≡◌, ◌≤◌, ℕ, [], None, IsTrue, string_bytes};
+ghost use Rattle.queue_name.specs.QueueName.{is_name};
+ghost use Rattle.command_words.specs.Told.{seen_names, seen_question, seen_sending};
+ghost use Rattle.policy_texts.specs.Policies.{Stops};
 ghost use Rattle.kumo_run.specs.StatusCode.{code_of, status_of_log, status_of_text};
 ghost use Rattle.kumo_run.specs.RefusalLine.{status_of};
-ghost use Rattle.kumo_run.specs.Ends.{Ends, EndsSend, EndsCheck, Refuses};
+ghost use Rattle.kumo_run.specs.Ends.{Ends, EndsSend, EndsSendIf, EndsPrinting, EndsUnbuilt, asks_for_mail_alone, names_no_text, has_no_option, Prints, Refuses};
+ghost use Rattle.kumo_run.specs.Printing.{IsCheckText, IsExplainText, HasTextCause};
 ghost use Rattle.kumo_run.specs.Work.{all_sessions};
 ghost use Rattle.kumo_run.specs.declared.status.Status.{Status};
 
-use crate::check::check;
 use crate::delivery_log::{LogWriteFault, write_log};
+use crate::printing::{check_text, explain_text};
 use crate::refusal::Refusal;
 use crate::scripted_peer::{PeerReplies, ScriptedLinker};
 use crate::status::Status;
-use crate::words::{Command, command_of};
 use crate::work::work;
+use command_words::{Asked, Command, PolicyNames, Sending, command_of};
 use history_core::History;
 use kumo_base::{Failed, Text};
-use kumo_outside::{Sink, Texts, put_all};
+use kumo_outside::{Search, Sink, Texts, put_all};
 use std::alloc::Global;
 
 /// What a call of the program leaves.
@@ -27,7 +31,7 @@ pub struct Finished<D, C, S> {
     pub disk: D,
     /// The clock that was handed in.
     pub clock: C,
-    /// The search that was handed in.
+    /// The search engine that was handed in.
     pub search: S,
     /// The linkers, which tell the sessions: one where a link was opened.
     pub peers: Vec<ScriptedLinker>,
@@ -35,28 +39,31 @@ pub struct Finished<D, C, S> {
     pub history: Option<History>,
 }
 
-/// Runs the program on its words: `send` reads a mail text, sends its message and writes the delivery log, `check` reads
-/// policy files and writes the report on them.
+/// Runs the program on its words: `check` writes which keys of policy texts have no effect, `explain` what applies to a queue's
+/// name and a source, and `send` reads a mail text, sends its message and writes the delivery log. The other commands and the
+/// other options of `send` are not built yet.
 ///
-/// The disk, the clock and the search are not used yet; each is handed back as it came.
-pub fn perform<T: Texts, O: Sink, D, C, S>(
+/// The search engine is asked about the patterns of a shaping text. The disk and the clock are not used yet; each is handed
+/// back as it came.
+pub fn perform<T: Texts, O: Sink, D, C, S: Search>(
     alloc: Global,
     words: &[Text],
     texts: &mut T,
     out: &mut O,
     disk: D,
     clock: C,
-    search: S,
+    mut search: S,
 ) -> Finished<D, C, S>
     ensures disk { result.disk ≡ disk }
     ensures clock { result.clock ≡ clock }
-    ensures search { result.search ≡ search }
-    ensures ends { (status : Status) × (result.status ≡ code_of status) × Ends status words.now (T.told texts.old) (T.faults texts.old) (T.faults texts.new)
+    ensures search { S.faults search ≤ S.faults result.search }
+    ensures ends { (status : Status) × (result.status ≡ code_of status) × Ends status words.now (T.told texts.old)
+        (record { texts_before = T.faults texts.old; texts_after = T.faults texts.new; search_before = S.faults search; search_after = S.faults result.search })
         (record { told_before = O.told out.old; told_after = O.told out.new; faults_before = O.faults out.old; faults_after = O.faults out.new })
         result.history (all_sessions result.peers.items) }
 {
     let mut peers = Vec::new(alloc);
-    let ended = run(alloc, words, texts, out, &mut peers);
+    let ended = run(alloc, words, texts, out, &mut search, &mut peers);
     Finished {
         status: ended.status.code(),
         disk,
@@ -75,27 +82,83 @@ struct Ended {
 }
 
 /// Does what the words ask for. The linkers that were used are added to `peers`.
-fn run<T: Texts, O: Sink>(
+fn run<T: Texts, O: Sink, S: Search>(
     alloc: Global,
     words: &[Text],
+    texts: &mut T,
+    out: &mut O,
+    search: &mut S,
+    peers: &mut Vec<ScriptedLinker>,
+) -> Ended
+    requires { peers.old.items ≡ [] }
+    ensures ends { Ends result.status words.now (T.told texts.old)
+        (record { texts_before = T.faults texts.old; texts_after = T.faults texts.new; search_before = S.faults search.old; search_after = S.faults search.new })
+        (record { told_before = O.told out.old; told_after = O.told out.new; faults_before = O.faults out.old; faults_after = O.faults out.new })
+        result.history (all_sessions peers.new.items) }
+    ensures search { S.faults search.old ≤ S.faults search.new }
+{
+    match command_of(words) {
+        None => refused(Refusal::Usage, out),
+        Some(Command::Check(names)) => run_check(alloc, &names, texts, out, search),
+        Some(Command::Explain(asked)) => run_explain(alloc, &asked, texts, out, search),
+        Some(Command::Send(sending)) => run_send(alloc, &sending, texts, out, peers),
+        Some(Command::Spool(_) | Command::Crew(_, _) | Command::Load(_, _)) => {
+            refused(Refusal::NotYetWords, out)
+        }
+    }
+}
+
+/// Sends a mail text and writes the delivery log, where nothing else is asked for.
+fn run_send<T: Texts, O: Sink>(
+    alloc: Global,
+    sending: &Sending<'_>,
     texts: &mut T,
     out: &mut O,
     peers: &mut Vec<ScriptedLinker>,
 ) -> Ended
     requires { peers.old.items ≡ [] }
-    ensures { Ends result.status words.now (T.told texts.old) (T.faults texts.old) (T.faults texts.new)
+    ensures { (search_before search_after : ℕ) → EndsSendIf (asks_for_mail_alone (seen_sending sending.now)) result.status (T.told texts.old sending.now.mail.now)
+        (record { texts_before = T.faults texts.old; texts_after = T.faults texts.new; search_before = search_before; search_after = search_after })
         (record { told_before = O.told out.old; told_after = O.told out.new; faults_before = O.faults out.old; faults_after = O.faults out.new })
         result.history (all_sessions peers.new.items) }
 {
-    match command_of(words) {
-        None => refused(Refusal::Usage, out),
-        Some(Command::Send { mail }) => run_send(alloc, mail, texts, out, peers),
-        Some(Command::Check { sources, queues }) => run_check(alloc, sources, queues, texts, out),
+    if asks_for_mail_alone(sending) {
+        send_mail(alloc, sending.mail, texts, out, peers)
+    } else {
+        refused(Refusal::NotYetWords, out)
     }
 }
 
+/// Whether nothing is asked for but to send a mail text.
+fn asks_for_mail_alone(sending: &Sending<'_>) -> bool
+    ensures { result ≡ asks_for_mail_alone (seen_sending sending.now) }
+{
+    names_no_text(&sending.texts) && has_no_option(sending)
+}
+
+/// Whether no policy text is named.
+fn names_no_text(names: &PolicyNames<'_>) -> bool
+    ensures { result ≡ names_no_text (seen_names names.now) }
+{
+    names.sources.is_none()
+        && names.queues.is_none()
+        && names.shaping.is_none()
+        && names.mx.is_none()
+}
+
+/// Whether none of the further options of sending is given.
+fn has_no_option(sending: &Sending<'_>) -> bool
+    ensures { result ≡ has_no_option (seen_sending sending.now) }
+{
+    sending.peers.is_none()
+        && sending.orders.is_none()
+        && sending.until.is_none()
+        && sending.start.is_none()
+        && sending.spool.is_none()
+}
+
 /// Sends a mail text and writes the delivery log.
-fn run_send<T: Texts, O: Sink>(
+fn send_mail<T: Texts, O: Sink>(
     alloc: Global,
     mail: &str,
     texts: &mut T,
@@ -103,7 +166,8 @@ fn run_send<T: Texts, O: Sink>(
     peers: &mut Vec<ScriptedLinker>,
 ) -> Ended
     requires { peers.old.items ≡ [] }
-    ensures { EndsSend result.status (T.told texts.old mail.now) (T.faults texts.old) (T.faults texts.new)
+    ensures { (search_before search_after : ℕ) → EndsSend result.status (T.told texts.old mail.now)
+        (record { texts_before = T.faults texts.old; texts_after = T.faults texts.new; search_before = search_before; search_after = search_after })
         (record { told_before = O.told out.old; told_after = O.told out.new; faults_before = O.faults out.old; faults_after = O.faults out.new })
         result.history (all_sessions peers.new.items) }
 {
@@ -116,24 +180,55 @@ fn run_send<T: Texts, O: Sink>(
     }
 }
 
-/// Checks policy files and writes the report.
-fn run_check<T: Texts, O: Sink>(
+/// Checks policy texts and writes the report.
+fn run_check<T: Texts, O: Sink, S: Search>(
     alloc: Global,
-    sources: &str,
-    queues: &str,
+    names: &PolicyNames<'_>,
     texts: &mut T,
     out: &mut O,
+    search: &mut S,
 ) -> Ended
-    ensures ends { EndsCheck result.status (T.told texts.old) sources.now queues.now (T.faults texts.old) (T.faults texts.new)
+    ensures ends { EndsPrinting result.status (IsCheckText (T.told texts.old) (seen_names names.now)) (Stops (T.told texts.old) (seen_names names.now))
+        (record { texts_before = T.faults texts.old; texts_after = T.faults texts.new; search_before = S.faults search.old; search_after = S.faults search.new })
         (record { told_before = O.told out.old; told_after = O.told out.new; faults_before = O.faults out.old; faults_after = O.faults out.new }) }
     ensures history { result.history ≡ None }
+    ensures search { S.faults search.old ≤ S.faults search.new }
 {
-    match check(alloc, texts, sources, queues) {
-        Ok(text) => Ended {
-            status: text_status(put_all(out, text.as_bytes())),
-            history: None,
-        },
+    match check_text(alloc, texts, names, search) {
+        Ok(text) => printed(text.as_str(), out),
         Err(why) => refused(why, out),
+    }
+}
+
+/// Writes what applies to a queue's name and a source.
+fn run_explain<T: Texts, O: Sink, S: Search>(
+    alloc: Global,
+    asked: &Asked<'_>,
+    texts: &mut T,
+    out: &mut O,
+    search: &mut S,
+) -> Ended
+    requires { IsTrue (is_name (seen_question asked.now).name) }
+    ensures ends { EndsPrinting result.status (IsExplainText (T.told texts.old) (seen_question asked.now)) (Stops (T.told texts.old) (seen_names asked.now.texts))
+        (record { texts_before = T.faults texts.old; texts_after = T.faults texts.new; search_before = S.faults search.old; search_after = S.faults search.new })
+        (record { told_before = O.told out.old; told_after = O.told out.new; faults_before = O.faults out.old; faults_after = O.faults out.new }) }
+    ensures history { result.history ≡ None }
+    ensures search { S.faults search.old ≤ S.faults search.new }
+{
+    match explain_text(alloc, texts, asked, search) {
+        Ok(text) => printed(text.as_str(), out),
+        Err(why) => refused(why, out),
+    }
+}
+
+/// Writes a text on policies.
+fn printed<O: Sink>(text: &str, out: &mut O) -> Ended
+    ensures { Prints result.status result.history text.now
+        (record { told_before = O.told out.old; told_after = O.told out.new; faults_before = O.faults out.old; faults_after = O.faults out.new }) }
+{
+    Ended {
+        status: text_status(put_all(out, text.as_bytes())),
+        history: None,
     }
 }
 
@@ -150,7 +245,7 @@ fn refused<O: Sink>(why: Refusal, out: &mut O) -> Ended
     }
 }
 
-/// The status that the writing of a report leaves.
+/// The status that the writing of a text leaves.
 fn text_status(written: Result<(), Failed>) -> Status
     ensures { result ≡ status_of_text written }
 {

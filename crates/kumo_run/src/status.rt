@@ -23,6 +23,8 @@ pub enum Status {
     Memory,
     /// The input is good, and what it asks for is not built yet.
     NotYet,
+    /// The search engine failed on a pattern.
+    SearchFault,
 }
 
 impl Status {
@@ -40,6 +42,7 @@ impl Status {
             Status::Limit => 10,
             Status::Memory => 11,
             Status::NotYet => 12,
+            Status::SearchFault => 16,
         }
     }
 }

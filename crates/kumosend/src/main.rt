@@ -4,7 +4,7 @@
 #![tactic(auto)]
 
 use kumo_base::Text;
-use kumo_outside::{FileTexts, StdoutSink};
+use kumo_outside::{FileTexts, RegexSearch, StdoutSink};
 use kumo_run::{Refusal, perform};
 use std::process::ExitCode;
 use std::{env, io};
@@ -14,6 +14,7 @@ fn main(rt: HostRuntime) -> ExitCode {
     let status = match words(&rt) {
         Ok(words) => {
             let mut texts = FileTexts::new(&rt);
+            let search = RegexSearch::new(rt.alloc(), Vec::new(rt.alloc()));
             perform(
                 rt.alloc(),
                 words.as_slice(),
@@ -21,7 +22,7 @@ fn main(rt: HostRuntime) -> ExitCode {
                 &mut out,
                 (),
                 (),
-                (),
+                search,
             )
             .status
         }

@@ -34,7 +34,7 @@ apart a b e = sym (is_eq-slice_cmp a b) ∙ ap is_eq (less_from a b e)
 apart_back : (a b : List ℕ) → comes_before a b ≡ true → bytes_eq b a ≡ false
 apart_back a b e = sym (is_eq-slice_cmp b a) ∙ ap is_eq (nat_list_cmp_total.antisymm b a ∙ ap ordering_reverse (less_from a b e))
 
-itself : (a : List ℕ) → bytes_eq a a ≡ true
+pub itself : (a : List ℕ) → bytes_eq a a ≡ true
 itself a = (bytes_eq-Decides a a).1 refl
 
 -- how two texts compare
@@ -55,7 +55,7 @@ both_false : (a b : Bool) → a ≡ false → b ≡ false → (a || b) ≡ false
 both_false true b e f = cc
 both_false false b e f = f
 
-first_true : (a b : Bool) → a ≡ true → (a || b) ≡ true
+pub first_true : (a b : Bool) → a ≡ true → (a || b) ≡ true
 first_true true b e = refl
 first_true false b e = cc
 

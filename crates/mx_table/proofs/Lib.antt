@@ -3,3 +3,4 @@ pub mod WordLemmas
 pub mod HostLemmas
 pub mod JoinLemmas
 pub mod LawLemmas
+pub mod NamedLemmas

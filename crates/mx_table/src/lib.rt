@@ -14,8 +14,9 @@
 //! `fault.rt` reports a refused line.
 #![tactic(auto)]
 
-ghost use Rattle.std.specs.Prelude.{◌≡◌, ◌<◌, ◌^◌, ◌++◌, ◌∷◌, [], length, Ok, IfOk, IfErr, OnOk};
+ghost use Rattle.std.specs.Prelude.{◌≡◌, ◌<◌, ◌^◌, ◌++◌, ◌∷◌, [], length, Ok, IfOk, IfErr, OnOk, IsTrue};
 ghost use Rattle.std.specs.Str.{is_utf8};
+ghost use Rattle.policy_core.specs.Mx.{are_hosts_named};
 ghost use Rattle.kumo_base.specs.Lines.{numbered_lines};
 ghost use Rattle.mx_table.specs.MxText.{rows_in, rows_from, IsMxOf, IsMxRefusal};
 
@@ -42,11 +43,12 @@ use std::alloc::Global;
 /// - `BadName`: a domain or a host that is not 1 to 255 bytes of visible ASCII, or has one of `|`, `=`, `:`, `@`, `!` and `>`.
 ///
 /// `Search` never comes.
-#[tactic(auto, unfolding(crate::specs::MxText::rows_in))]
+#[tactic(auto, unfolding(crate::specs::MxText::rows_in), using(crate::proofs::NamedLemmas::named_table))]
 pub fn read_mx(alloc: Global, text: &[u8]) -> Result<MxTable, PolicyFault>
     requires { length text.now < 2 ^ 63 }
     ensures ok { IfOk result (λ table. IsMxOf table (rows_in text.now)) }
     ensures err { IfErr result (λ fault. IsMxRefusal fault (rows_in text.now)) }
+    ensures named { IfOk result (λ table. IsTrue (are_hosts_named table)) }
 {
     if !is_text(text) {
         return Err(fault::report(alloc, 1, Why::NotText));

@@ -4,8 +4,10 @@
 //! `faults.rt` goes through the document for faults, `ignored.rt` for keys without effect; `sources.rt` makes the data.
 #![tactic(auto)]
 
-ghost use Rattle.std.specs.Prelude.{◌≡◌, IfOk, IfErr, Ok};
+ghost use Rattle.std.specs.Prelude.{◌≡◌, IfOk, IfErr, Ok, IsTrue};
 ghost use Rattle.policy_core.specs.declared.fault.PolicyFile.TheVariants as file;
+ghost use Rattle.policy_core.specs.declared.settings.TheConstants.{UNSPECIFIED};
+ghost use Rattle.policy_core.specs.Policy.{has_pool, are_entrants_sources, are_sources_named};
 ghost use Rattle.policy_toml.specs.Reports.{IsRefusal};
 ghost use Rattle.sources_policy.specs.SourcesFile.{sources_file};
 
@@ -25,7 +27,7 @@ use policy_toml::open_document;
 use std::alloc::Global;
 
 /// The sources and pools of a file and the keys that have no effect, from the bytes of a sources file (TOML). The source and
-/// the pool `unspecified` are always there; lists are in byte order of names.
+/// the pool `unspecified` are always there; lists are in byte order of names. Each entrant of a pool is one of the sources.
 ///
 /// A refusal other than `Memory` is the first fault by the keys of its table joined by `.`, then by its key, then by its word:
 /// - `NotToml`: the bytes are no TOML in UTF-8.
@@ -34,10 +36,13 @@ use std::alloc::Global;
 /// - `BadWeight`: a weight that is not from 0 to 1,000.
 /// - `TooMany`: more than 200 entrants. The key is `-`.
 /// - `UnknownSource`: an entrant of which the file has no table. The key is `-`.
-#[tactic(auto, unfolding(crate::specs::SourcesFile::sources_file))]
+#[tactic(auto, unfolding(crate::specs::SourcesFile::sources_file), using(crate::proofs::FitLemmas::fits))]
 pub fn read_sources(alloc: Global, text: &[u8]) -> Result<(Sources, Vec<Ignored>), PolicyFault>
     ensures ok { IfOk result (λ r. sources_file text.now ≡ Ok (record { sources = r.0; ignored = r.1.items })) }
     ensures err { IfErr result (λ fault. IsRefusal file.Sources fault (sources_file text.now)) }
+    ensures base { IfOk result (λ r. IsTrue (has_pool r.0 UNSPECIFIED.now)) }
+    ensures entrants { IfOk result (λ r. IsTrue (are_entrants_sources r.0)) }
+    ensures source_names { IfOk result (λ r. IsTrue (are_sources_named r.0)) }
 {
     let document = open_document(alloc, PolicyFile::Sources, text)?;
     let faults = faults_in(alloc, &document)?;

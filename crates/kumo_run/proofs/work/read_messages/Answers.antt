@@ -26,7 +26,9 @@ unread (refusal.Policy file table key why) told read before after up h = absurd 
 unread (refusal.Mail line why) told read before after up h = told_as told read _ up h
 unread refusal.ReadFault told read before after up h = absurd h
 unread refusal.Memory told read before after up h = tt
+unread refusal.SearchFault told read before after up h = absurd h
 unread refusal.Limit told read before after up h = told_as told read _ up h
+unread refusal.NotYetWords told read before after up h = absurd h
 unread refusal.NotYetMail told read before after up h = absurd h
 unread refusal.NotYetReply told read before after up h = absurd h
 

@@ -1,9 +1,0 @@
-use Rattle.std.proofs.Common.{sym, ap}
-use Rattle.queues_policy.specs.QueuesFile.{QueuesFile, queues_file}
-use Rattle.kumo_run.proofs.PolicyLemmas.{found_read}
-use Rattle.kumo_run.proofs.check.ignored_in_queues.Goals as goal
-
-pub returns-in-Ok-clause-ok : goal.returns-in-Ok-clause-ok
-returns-in-Ok-clause-ok c =
-    let read : QueuesFile = record { queues = c.in-Ok.read.0; ignored = c.in-Ok.read.1.items } in
-    (read, found_read queues_file c.args.text.now read c.if-text-gt-TEXT_LIMIT.false c.in-Ok.ensures.ok, ap (λ keys. keys.items) (sym c.second.ensures))

@@ -1,0 +1,27 @@
+-- The causes of faults, where counts go on and reasons are seen from further out.
+use Rattle.std.proofs.Common.{ℕ, ◌≤◌, arith}
+use Rattle.kumo_base.specs.Causes.{Rose}
+use Rattle.policy_texts.specs.declared.load.LoadFault.{LoadFault}
+use Rattle.policy_texts.specs.declared.load.LoadFault.TheVariants as load_fault
+use Rattle.policy_core.specs.declared.fault.PolicyFault.TheVariants.{At}
+use Rattle.policy_texts.specs.Texts.{Stop, too_long, refused}
+use Rattle.policy_texts.specs.Policies.{Counts, HasCauseIn}
+
+-- a count does not rise of itself
+pub never_rose : Rose 0 0 → ⊥
+never_rose h = omega arith
+
+-- a rise is one from each earlier count
+pub rose_since : (a b c : ℕ) → a ≤ b → Rose b c → Rose a c
+rose_since a b c p h = omega arith
+
+-- for the same cause among more reasons
+pub cause_as : (P Q : Stop → Type 0) (a b : Counts) (f : LoadFault) → ((stop : Stop) → P stop → Q stop)
+    → (Rose a.texts_before a.texts_after → Rose b.texts_before b.texts_after)
+    → (Rose a.search_before a.search_after → Rose b.search_before b.search_after)
+    → HasCauseIn P a f → HasCauseIn Q b f
+cause_as P Q a b (load_fault.Refused f table key why) up texts search h = up (refused (At f table key why)) h
+cause_as P Q a b load_fault.Limit up texts search h = up too_long h
+cause_as P Q a b load_fault.ReadFault up texts search h = texts h
+cause_as P Q a b load_fault.SearchFault up texts search h = search h
+cause_as P Q a b load_fault.Memory up texts search h = tt

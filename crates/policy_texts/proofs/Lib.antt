@@ -1,0 +1,5 @@
+mod SortedLines
+pub mod Given
+pub mod Causes
+pub mod Taken
+pub mod Loading

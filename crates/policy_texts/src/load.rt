@@ -1,0 +1,141 @@
+//! Reading policy texts and putting them together.
+ghost use Rattle.std.specs.Prelude.{◌≡◌, ◌≤◌, ◌∷◌, [], None, IsTrue, IfOk, IfErr};
+ghost use Rattle.kumo_base.specs.declared.moment.TheConstants.{LAST_MOMENT};
+ghost use Rattle.policy_core.specs.Policy.{has_pool, are_entrants_sources, are_sources_named, unknown_pool};
+ghost use Rattle.policy_core.specs.Mx.{are_hosts_named};
+ghost use Rattle.policy_core.specs.declared.settings.TheConstants.{UNSPECIFIED};
+ghost use Rattle.command_words.specs.Told.{seen_names};
+ghost use Rattle.policy_texts.specs.Policies.{Loads, Stops, StopsAtPools, HasCauseIn};
+ghost use Rattle.policy_texts.specs.LoadCauses.{no_counts};
+
+use crate::stages::{take_mx, take_queues, take_shaping, take_sources};
+use command_words::PolicyNames;
+use kumo_base::{LAST_MOMENT, Text};
+use kumo_outside::{Search, Texts};
+use policy_core::{
+    Ignored, MxTable, Policy, PolicyFault, PolicyFile, Queues, Shaping, Sources, Why,
+};
+use std::alloc::{AllocError, AllocFailed, Global};
+
+/// A policy, and the keys of its texts that have no effect: those of sources, then of queues, then of shaping.
+#[derive(Drop)]
+pub struct PolicyTexts {
+    pub policy: Policy,
+    pub ignored: Vec<Ignored>,
+}
+
+/// Why policy texts give no policy.
+#[derive(Drop)]
+pub enum LoadFault {
+    /// This place of a text is the first that is at fault. Table and key are `-` where there is none.
+    Refused {
+        file: PolicyFile,
+        table: Text,
+        key: Text,
+        why: Why,
+    },
+    /// A text has more bytes than are read.
+    Limit,
+    /// A text could not be read.
+    ReadFault,
+    /// The search engine failed on a pattern of the shaping text.
+    SearchFault,
+    /// There was no memory.
+    Memory,
+}
+
+impl From<AllocError> for LoadFault {
+    ghost use Rattle.policy_texts.specs.declared.load.LoadFault.{LoadFault};
+
+    ghost from_gives = { λ _ fault. fault ≡ LoadFault.Memory };
+
+    fn from(_error: AllocError) -> LoadFault {
+        LoadFault::Memory
+    }
+}
+
+impl<T: Drop> From<AllocFailed<T>> for LoadFault {
+    ghost use Rattle.policy_texts.specs.declared.load.LoadFault.{LoadFault};
+
+    ghost from_gives = { λ _ fault. fault ≡ LoadFault.Memory };
+
+    fn from(_failed: AllocFailed<T>) -> LoadFault {
+        LoadFault::Memory
+    }
+}
+
+impl From<PolicyFault> for LoadFault {
+    ghost use Rattle.policy_texts.specs.LoadCauses.{load_fault_of};
+
+    ghost from_gives = { λ refusal fault. fault ≡ load_fault_of refusal };
+
+    fn from(refusal: PolicyFault) -> LoadFault {
+        match refusal {
+            PolicyFault::At {
+                file,
+                table,
+                key,
+                why,
+            } => LoadFault::Refused {
+                file,
+                table,
+                key,
+                why,
+            },
+            PolicyFault::Search => LoadFault::SearchFault,
+            PolicyFault::Memory => LoadFault::Memory,
+        }
+    }
+}
+
+/// The policy of the texts of these names, whose one stop is `LAST_MOMENT`. A text that has no name is empty.
+///
+/// The texts are read in the order sources, queues, shaping, mail exchangers, each whole before the next, and then put
+/// together; the first fault is the answer:
+/// - `ReadFault` where a read failed; the count of faults of the texts rose.
+/// - `Limit` where a text has more than `TEXT_LIMIT` bytes.
+/// - `Refused` where a text is refused by its reader, or, behind all of them, where a layer of queues names a pool that is not
+///   there.
+/// - `SearchFault` where the engine failed on a pattern; its count of faults rose.
+/// - `Memory` at any time.
+pub fn load_policy<T: Texts, S: Search>(
+    alloc: Global,
+    texts: &mut T,
+    names: &PolicyNames<'_>,
+    search: &mut S,
+) -> Result<PolicyTexts, LoadFault>
+    ensures ok { IfOk result (λ loaded. Loads (T.told texts.old) (seen_names names.now) loaded.policy loaded.ignored.items) }
+    ensures err { IfErr result (λ fault. HasCauseIn (Stops (T.told texts.old) (seen_names names.now)) (record { texts_before = T.faults texts.old; texts_after = T.faults texts.new; search_before = S.faults search.old; search_after = S.faults search.new }) fault) }
+    ensures told { T.told texts.new ≡ T.told texts.old }
+    ensures texts { T.faults texts.old ≤ T.faults texts.new }
+    ensures search { S.faults search.old ≤ S.faults search.new }
+{
+    let (sources, mut ignored) = take_sources(alloc, texts, names.sources)?;
+    let (queues, mut of_queues) = take_queues(alloc, texts, names.queues)?;
+    ignored.append(&mut of_queues)?;
+    let (shaping, mut of_shaping) = take_shaping(alloc, texts, names.shaping, search)?;
+    ignored.append(&mut of_shaping)?;
+    let mx = take_mx(alloc, texts, names.mx)?;
+    let policy = assembled(alloc, sources, queues, shaping, mx)?;
+    Ok(PolicyTexts { policy, ignored })
+}
+
+/// The policy of these parts, whose one stop is `LAST_MOMENT`.
+fn assembled(
+    alloc: Global,
+    sources: Sources,
+    queues: Queues,
+    shaping: Shaping,
+    mx: MxTable,
+) -> Result<Policy, LoadFault>
+    requires base { IsTrue (has_pool sources UNSPECIFIED.now) }
+    requires entrants { IsTrue (are_entrants_sources sources) }
+    requires source_names { IsTrue (are_sources_named sources) }
+    requires hosts { IsTrue (are_hosts_named mx) }
+    ensures ok { IfOk result (λ policy. policy ≡ record { sources = sources; queues = queues; shaping = shaping; mx = mx; stops = LAST_MOMENT ∷ [] }) }
+    ensures known { IfOk result (λ policy. unknown_pool sources queues ≡ None) }
+    ensures err { IfErr result (λ fault. HasCauseIn (StopsAtPools (record { sources = sources; ignored = [] }) (record { queues = queues; ignored = [] })) no_counts fault) }
+{
+    let stops = vec![in alloc; LAST_MOMENT]?;
+    Ok(Policy::assemble(alloc, sources, queues, shaping, mx, stops)?)
+}

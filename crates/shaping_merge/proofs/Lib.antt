@@ -1,0 +1,5 @@
+mod ExplainLemmas
+pub mod FirstsLemmas
+pub mod LayingLemmas
+pub mod SameSite
+pub mod ShapeSteps

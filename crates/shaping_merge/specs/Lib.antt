@@ -1,0 +1,4 @@
+pub mod Domains
+pub mod ExplainText
+pub mod Laying
+pub mod Rollups

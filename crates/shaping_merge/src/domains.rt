@@ -1,0 +1,151 @@
+//! The domains of a site.
+ghost use Rattle.std.specs.Prelude.{◌≡◌, ◌++◌, ◌∷◌, [], IfOk, OnOk, map};
+ghost use Rattle.std.specs.List.{filter};
+ghost use Rattle.policy_core.specs.Site.{hosts_of, are_same_texts, is_at_site, own_domain, rollup_of, shape_of};
+ghost use Rattle.policy_core.specs.PathTables.{firsts};
+ghost use Rattle.shaping_merge.specs.Domains.{AreDomainsOf};
+ghost use Rattle.shaping_merge.specs.Rollups.{AreRollups};
+
+use crate::rollups::rollup_in;
+use crate::shapes::Shapes;
+use crate::sites::site_name;
+use kumo_base::{Memory, Text};
+use policy_core::{DomainShape, Policy, Site};
+use std::alloc::Global;
+use std::collections::BTreeMap;
+
+/// Whether a domain is at a site. `rollups` are those of the policy.
+fn is_at_site(
+    alloc: Global,
+    policy: &Policy,
+    rollups: &BTreeMap<String, bool>,
+    site: &Site,
+    domain: &str,
+) -> Result<bool, Memory>
+    requires { AreRollups rollups.now policy.now.shaping.domains }
+    ensures { IfOk result (λ here. here ≡ is_at_site policy.now site.now domain.now) }
+{
+    is_at(alloc, policy, rollup_in(rollups, domain), site, domain)
+}
+
+/// Whether a domain is at a site. `rollup` says whether the domain shares its site with others of the same hosts.
+#[tactic(auto, unfolding(policy_core::specs::Site::is_at_site, policy_core::specs::Site::site_of))]
+pub(crate) fn is_at(
+    alloc: Global,
+    policy: &Policy,
+    rollup: bool,
+    site: &Site,
+    domain: &str,
+) -> Result<bool, Memory>
+    requires { rollup ≡ rollup_of (shape_of policy.now.shaping domain.now) }
+    ensures { IfOk result (λ here. here ≡ is_at_site policy.now site.now domain.now) }
+{
+    let hosts = site.hosts.as_slice();
+    if !are_hosts_of(policy, domain, hosts) {
+        return Ok(false);
+    }
+    let name = site_name(alloc, rollup, domain, hosts)?;
+    Ok(name.is_same(site.name.as_str()))
+}
+
+/// Whether these are the hosts of a domain.
+fn are_hosts_of(policy: &Policy, domain: &str, hosts: &[Text]) -> bool
+    ensures { result ≡ are_same_texts (hosts_of policy.now domain.now) hosts.now }
+{
+    match policy.mx.hosts(domain) {
+        Some(own) => are_same_texts(own, hosts),
+        None => is_one_text(domain, hosts),
+    }
+}
+
+/// Whether a list has one text alone, which is equal to this one.
+fn is_one_text(text: &str, texts: &[Text]) -> bool
+    ensures { result ≡ are_same_texts (text.now ∷ []) texts.now }
+{
+    match texts {
+        [other] => other.is_same(text),
+        _ => false,
+    }
+}
+
+/// Whether two lists have the same texts in the same order.
+fn are_same_texts(texts: &[Text], others: &[Text]) -> bool
+    ensures { result ≡ are_same_texts texts.now others.now }
+{
+    if texts.len() != others.len() {
+        return false;
+    }
+    for place in 0..texts.len() {
+        if !texts[place].is_same(others[place].as_str()) {
+            return false;
+        }
+    }
+    true
+}
+
+/// The domains of a site, some of them more than once: of the MX rows, of the shaping tables, and the host that is a site of
+/// its own. `shapes` are those of the site, of tables of the same domain the first.
+pub(crate) fn domains_of<'p>(
+    alloc: Global,
+    policy: &'p Policy,
+    shapes: &Shapes<'p>,
+    site: &'p Site,
+) -> Result<Vec<&'p str>, Memory>
+    requires rollups { AreRollups shapes.now.rollups policy.now.shaping.domains }
+    requires at_site { map (λ shape. shape.now) shapes.now.at_site.items ≡ filter (λ d. is_at_site policy.now site.now d.domain) (firsts (λ d. d.domain) policy.now.shaping.domains) }
+    ensures { IfOk result (λ domains. AreDomainsOf policy.now site.now (map (λ domain. domain.now) domains.items)) }
+{
+    let mut domains = Vec::new(alloc);
+    add_of_rows(alloc, policy, &shapes.rollups, site, &mut domains)?;
+    add_of_shapes(shapes.at_site.as_slice(), &mut domains)?;
+    add_own(alloc, policy, &shapes.rollups, site, &mut domains)?;
+    Ok(domains)
+}
+
+/// Adds those of the domains of the MX rows that are at the site.
+fn add_of_rows<'p>(
+    alloc: Global,
+    policy: &'p Policy,
+    rollups: &BTreeMap<String, bool>,
+    site: &Site,
+    domains: &mut Vec<&'p str>,
+) -> Result<(), Memory>
+    requires { AreRollups rollups.now policy.now.shaping.domains }
+    ensures { OnOk result (map (λ domain. domain.now) domains.new.items ≡ map (λ domain. domain.now) domains.old.items ++ filter (is_at_site policy.now site.now) (map (λ row. row.domain) policy.now.mx)) }
+{
+    for row in policy.mx.rows.as_slice() {
+        let domain = row.domain.as_str();
+        if is_at_site(alloc, policy, rollups, site, domain)? {
+            domains.push(domain)?;
+        }
+    }
+    Ok(())
+}
+
+/// Adds the domains of shaping tables.
+fn add_of_shapes<'p>(shapes: &[&'p DomainShape], domains: &mut Vec<&'p str>) -> Result<(), Memory>
+    ensures { OnOk result (map (λ domain. domain.now) domains.new.items ≡ map (λ domain. domain.now) domains.old.items ++ map (λ d. d.domain) (map (λ shape. shape.now) shapes.now)) }
+{
+    for shape in shapes {
+        domains.push(shape.domain.as_str())?;
+    }
+    Ok(())
+}
+
+/// Adds the host that has no row and is a site of its own, where the site has its name.
+fn add_own<'p>(
+    alloc: Global,
+    policy: &Policy,
+    rollups: &BTreeMap<String, bool>,
+    site: &'p Site,
+    domains: &mut Vec<&'p str>,
+) -> Result<(), Memory>
+    requires { AreRollups rollups.now policy.now.shaping.domains }
+    ensures { OnOk result (map (λ domain. domain.now) domains.new.items ≡ map (λ domain. domain.now) domains.old.items ++ own_domain policy.now site.now) }
+{
+    let host = site.name.as_str();
+    if policy.mx.hosts(host).is_none() && is_at_site(alloc, policy, rollups, site, host)? {
+        domains.push(host)?;
+    }
+    Ok(())
+}

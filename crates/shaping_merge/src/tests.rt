@@ -1,0 +1,4 @@
+//! The public calls, each on values made here.
+
+mod explaining;
+mod paths;
