@@ -1,5 +1,5 @@
 -- Search patterns are those of the crate regex: its grammar decides which texts are patterns, and a pattern nests at most
--- PATTERN_DEPTH_LIMIT deep, which is 250.
+-- 250 deep.
 use Rattle.std.specs.Prelude.{◌≡◌, ◌≤◌, ◌<◌, ℕ, List, All, Bool, Option, Some, None, Result, IfErr, is_some, nat_le, if◌then◌else◌, option_and_then, option_map, chars}
 use Rattle.kumo_base.specs.Causes.{Rose}
 use Rattle.regex.specs.Patterns.{Re, find_str, default_config}
@@ -7,12 +7,16 @@ use Rattle.regex.specs.Strings.{regex_pattern}
 use Rattle.regex.specs.declared.string.regex.Regex.{Regex}
 use Rattle.regex_syntax.specs.Brackets.{Nested}
 use Rattle.regex_syntax.specs.Grammar.{Names, read}
-use Rattle.kumo_outside.specs.declared.search.TheConstants.{PATTERN_DEPTH_LIMIT}
 use Rattle.kumo_outside.specs.declared.search.SearchFault as SearchFault
+use Rattle.kumo_outside.specs.Limits.{pattern_depth_limit}
+
+-- what a search shows: the faults counted so far
+pub record SearchSeen : Type 0 where
+  pub faults : ℕ
 
 -- what was read, where it nests no deeper than the limit
 abbrev pub within_limit : Option (Nested Re × Names) → Option Re
-within_limit = option_and_then (λ p. if nat_le p.0.depth PATTERN_DEPTH_LIMIT then Some p.0.value else None)
+within_limit = option_and_then (λ p. if nat_le p.0.depth pattern_depth_limit then Some p.0.value else None)
 
 -- the pattern that the grammar reads in the text, where it nests within the limit
 unfoldable pub pattern_in : List ℕ → Option Re

@@ -11,6 +11,16 @@ pub record ExtendsByFront (old new : Option (List ℕ)) (bytes front rest : List
   pub whole : front ++ rest ≡ bytes
   pub added : new ≡ extended old front
 
+-- what a sink shows: the bytes taken so far, where they are told, and the faults counted so far
+pub record SinkSeen : Type 0 where
+  pub told : Option (List ℕ)
+  pub faults : ℕ
+
+-- what texts show: the bytes of the text of a name, where they are told, and the faults counted so far
+pub record TextsSeen : Type 0 where
+  pub told : List ℕ → Option (List ℕ)
+  pub faults : ℕ
+
 -- some front of these bytes was added, perhaps all of them
 abbrev pub TakesFront : Option (List ℕ) → Option (List ℕ) → List ℕ → Type 0
 TakesFront old new bytes = (front : List ℕ) × (rest : List ℕ) × ExtendsByFront old new bytes front rest

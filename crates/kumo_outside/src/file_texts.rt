@@ -22,9 +22,7 @@ impl<'a, R: Files> FileTexts<'a, R> {
 }
 
 impl<'a, R: Files> Texts for FileTexts<'a, R> {
-    ghost told = { λ _ _. None };
-
-    ghost faults = { λ s. s.faults };
+    ghost seen = { λ s. record { told = λ _. None; faults = s.faults } };
 
     fn read(&mut self, name: &str, at: u64, buffer: &mut [u8]) -> Result<usize, Failed> {
         let Ok(mut file) = fs::open(self.files, name) else {

@@ -8,6 +8,7 @@
 #![tactic(auto)]
 
 mod file_texts;
+pub mod laws;
 mod link;
 mod linker;
 mod mem_sink;

@@ -1,5 +1,5 @@
 //! A sink in memory.
-ghost use Rattle.std.specs.Prelude.{◌≡◌, ◌<◌, ◌≤◌, ℕ, List, [], Option, Some, length, take, IfOk, IsErr, IsTrue, MatchResult};
+ghost use Rattle.std.specs.Prelude.{◌≡◌, ◌<◌, ◌≤◌, ℕ, List, [], Option, Some, length, take, IfOk, OnOk, OnErr, IsErr, IsTrue, MatchResult};
 ghost use Rattle.kumo_base.specs.Causes.{HasCause};
 ghost use Rattle.kumo_outside.specs.Told.{extended};
 ghost use Rattle.kumo_outside.specs.Devices.{ByteSink, is_failing, one_more};
@@ -47,9 +47,7 @@ impl MemSink {
 }
 
 impl Sink for MemSink {
-    ghost told = { λ s. Some s.bytes };
-
-    ghost faults = { λ s. s.faults };
+    ghost seen = { λ s. record { told = Some s.bytes; faults = s.faults } };
 
     #[tactic(auto, unfolding(crate::specs::Told::extended))]
     fn put(&mut self, piece: &[u8]) -> Result<usize, Failed>
@@ -57,6 +55,8 @@ impl Sink for MemSink {
         ensures taken { IfOk result (λ n. (0 < n) × (n ≤ length piece.now)) }
         ensures bytes { MatchResult result (λ n. Some self.new.bytes ≡ extended (Some self.old.bytes) (take n piece.now)) (λ _. Some self.new.bytes ≡ Some self.old.bytes) }
         ensures cause { HasCause self.old.faults self.new.faults result }
+        ensures uncounted { OnOk result (self.new.faults ≡ self.old.faults) }
+        ensures counted { OnErr result (self.new.faults ≡ one_more self.old.faults) }
         ensures fails { IsTrue (is_failing self.old.failing (one_more self.old.calls)) → IsErr result }
         ensures whole { IfOk result (λ n. n ≡ length piece.now) }
         ensures counts { (self.new.calls ≡ one_more self.old.calls) × (self.new.failing ≡ self.old.failing) }

@@ -1,5 +1,5 @@
 //! Texts in memory.
-ghost use Rattle.std.specs.Prelude.{◌≡◌, ◌<◌, ◌≤◌, ◌&&◌, not, ℕ, List, Option, length, option_map, IfOk, IfSome, is_ok, is_some};
+ghost use Rattle.std.specs.Prelude.{◌≡◌, ◌<◌, ◌≤◌, ◌&&◌, not, ℕ, List, Option, length, option_map, IfOk, IfSome, OnOk, OnErr, is_ok, is_some};
 ghost use Rattle.kumo_base.specs.Causes.{HasCause};
 ghost use Rattle.kumo_outside.specs.Told.{Places};
 ghost use Rattle.kumo_outside.specs.Devices.{TextShelf, text_at, is_failing, one_more};
@@ -38,9 +38,7 @@ impl MemTexts {
 }
 
 impl Texts for MemTexts {
-    ghost told = { λ s. λ name. text_at s.texts name };
-
-    ghost faults = { λ s. s.faults };
+    ghost seen = { λ s. record { told = λ name. text_at s.texts name; faults = s.faults } };
 
     fn read(&mut self, name: &str, at: u64, buffer: &mut [u8]) -> Result<usize, Failed>
         requires { 0 < length buffer.old }
@@ -48,6 +46,8 @@ impl Texts for MemTexts {
         ensures bytes { IfSome (text_at self.old.texts name.now) (λ text. IfOk result (λ n. Places text at n buffer.new)) }
         ensures same { self.new.texts ≡ self.old.texts }
         ensures cause { HasCause self.old.faults self.new.faults result }
+        ensures uncounted { OnOk result (self.new.faults ≡ self.old.faults) }
+        ensures counted { OnErr result (self.new.faults ≡ one_more self.old.faults) }
         ensures reads { is_ok result ≡ (not (is_failing self.old.failing (one_more self.old.calls)) && is_some (text_at self.old.texts name.now)) }
         ensures counts { (self.new.calls ≡ one_more self.old.calls) × (self.new.failing ≡ self.old.failing) }
     {

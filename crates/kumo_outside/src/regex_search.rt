@@ -53,6 +53,7 @@ impl RegexSearch {
         ensures same { result ≡ answer }
         ensures cause { HasSearchCause self.old.faults self.new.faults answer }
         ensures uncounted { answer ≢ Err SearchFault.Search → self.new.faults ≡ self.old.faults }
+        ensures counted { answer ≡ Err SearchFault.Search → self.new.faults ≡ one_more self.old.faults }
         ensures counts { (self.new.calls ≡ self.old.calls) × (self.new.failing ≡ self.old.failing) }
     {
         if answer == Err(SearchFault::Search) {
@@ -63,7 +64,7 @@ impl RegexSearch {
 }
 
 impl Search for RegexSearch {
-    ghost faults = { λ s. s.faults };
+    ghost seen = { λ s. record { faults = s.faults } };
 
     fn built(&mut self, pattern: &str) -> Result<bool, SearchFault>
         ensures right { IfOk result (λ is_one. is_one ≡ is_pattern pattern.now) }
@@ -73,6 +74,7 @@ impl Search for RegexSearch {
         ensures fails { IsTrue (is_failing self.old.failing (one_more self.old.calls)) → result ≡ Err SearchFault.Search }
         ensures counts { (self.new.calls ≡ one_more self.old.calls) × (self.new.failing ≡ self.old.failing) }
         ensures uncounted { result ≢ Err SearchFault.Search → self.new.faults ≡ self.old.faults }
+        ensures counted { result ≡ Err SearchFault.Search → self.new.faults ≡ one_more self.old.faults }
     {
         if self.is_called_to_fail() {
             return self.counted(Err(SearchFault::Search));
@@ -87,6 +89,7 @@ impl Search for RegexSearch {
         ensures fails { IsTrue (is_failing self.old.failing (one_more self.old.calls)) → result ≡ Err SearchFault.Search }
         ensures counts { (self.new.calls ≡ one_more self.old.calls) × (self.new.failing ≡ self.old.failing) }
         ensures uncounted { result ≢ Err SearchFault.Search → self.new.faults ≡ self.old.faults }
+        ensures counted { result ≡ Err SearchFault.Search → self.new.faults ≡ one_more self.old.faults }
     {
         if self.is_called_to_fail() {
             return self.counted(Err(SearchFault::Search));

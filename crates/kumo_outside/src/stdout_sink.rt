@@ -21,9 +21,7 @@ impl<'a, R: Print> StdoutSink<'a, R> {
 }
 
 impl<'a, R: Print> Sink for StdoutSink<'a, R> {
-    ghost told = { λ _. None };
-
-    ghost faults = { λ s. s.faults };
+    ghost seen = { λ s. record { told = None; faults = s.faults } };
 
     #[tactic(auto, unfolding(crate::specs::Told::extended))]
     fn put(&mut self, piece: &[u8]) -> Result<usize, Failed> {

@@ -30,10 +30,10 @@ pub fn read_text<T: Texts>(
     limit: usize,
 ) -> Result<Bytes, ReadTextFault>
     requires { limit < 2 ^ 32 }
-    ensures text { IfSome (T.told texts.old name.now) (λ text. IfOk result (λ read. IsReadUpTo limit text read)) }
-    ensures told { T.told texts.new ≡ T.told texts.old }
-    ensures cause { result ≡ Err ReadTextFault.ReadFault → Rose (T.faults texts.old) (T.faults texts.new) }
-    ensures later { T.faults texts.old ≤ T.faults texts.new }
+    ensures text { IfSome ((T.seen texts.old).told name.now) (λ text. IfOk result (λ read. IsReadUpTo limit text read)) }
+    ensures told { (T.seen texts.new).told ≡ (T.seen texts.old).told }
+    ensures cause { result ≡ Err ReadTextFault.ReadFault → Rose (T.seen texts.old).faults (T.seen texts.new).faults }
+    ensures later { (T.seen texts.old).faults ≤ (T.seen texts.new).faults }
 {
     let mut bytes = Bytes::new(alloc);
     let mut buffer = [0u8; PIECE];

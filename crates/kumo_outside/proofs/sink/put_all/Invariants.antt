@@ -6,8 +6,8 @@ use Rattle.kumo_outside.proofs.sink.put_all.Given as goal
 abbrev pub invariant-loop-at : goal.invariant-loop-at
 invariant-loop-at g l = record {
   within : l.at ≤ length l.bytes;
-  taken : g.O.Sink.told l.out ≡ extended (g.O.Sink.told l.fn.out) (take l.at l.bytes);
-  later : g.O.Sink.faults l.fn.out ≤ g.O.Sink.faults l.out;
+  taken : (g.O.Sink.seen l.out).told ≡ extended (g.O.Sink.seen l.fn.out).told (take l.at l.bytes);
+  later : (g.O.Sink.seen l.fn.out).faults ≤ (g.O.Sink.seen l.out).faults;
 }
 
 abbrev pub decreases-loop-at : goal.decreases-loop-at
