@@ -21,10 +21,10 @@ use Rattle.smtp_reply.proofs.HeardLemmas.{more_is_short, more_uses_all}
 use Rattle.smtp_reply.proofs.WholeLemmas.{reader_proper}
 
 -- nothing came
-pub gets_none : (old new : Side) → new.got ≡ old.got → new.sent ≡ old.sent → new.unread ≡ old.unread → old.faults ≤ new.faults → Gets old new
+pub gets_none : (old new : Side) → new.link.got ≡ old.link.got → new.link.sent ≡ old.link.sent → new.unread ≡ old.unread → old.link.faults ≤ new.link.faults → Gets old new
 gets_none old new g s u f = record {
   more = [];
-  grows = g ∙ sym (extended-nil old.got);
+  grows = g ∙ sym (extended-nil old.link.got);
   added = u ∙ sym (append-nil old.unread);
   sent_is = s;
   later = f;
@@ -34,9 +34,9 @@ gets_none old new g s u f = record {
 pub record IsReading (old new : Side) (reader : ReplyReader) (left : ℕ) : Type 0 where
   pub so_far : List ℕ
   pub more : List ℕ
-  pub grows : new.got ≡ extended old.got more
-  pub sent_is : new.sent ≡ old.sent
-  pub later : old.faults ≤ new.faults
+  pub grows : new.link.got ≡ extended old.link.got more
+  pub sent_is : new.link.sent ≡ old.link.sent
+  pub later : old.link.faults ≤ new.link.faults
   pub came : so_far ++ new.unread ≡ old.unread ++ more
   pub reads : Reads reader so_far
   pub left_is : length so_far + left ≡ 4096
@@ -46,7 +46,7 @@ pub reading_begins : (old : Side) (reader : ReplyReader) → Reads reader [] →
 reading_begins old reader r = record {
   so_far = [];
   more = [];
-  grows = sym (extended-nil old.got);
+  grows = sym (extended-nil old.link.got);
   sent_is = refl;
   later = omega arith;
   came = sym (append-nil old.unread);
@@ -59,7 +59,7 @@ pub reading_gets : {s0 s1 s2 : Side} {reader : ReplyReader} {left : ℕ} → IsR
 reading_gets {s0} {s1} {s2} {reader} {left} i g = record {
   so_far = i.so_far;
   more = i.more ++ g.more;
-  grows = extended-next s0.got s1.got s2.got i.more g.more i.grows g.grows;
+  grows = extended-next s0.link.got s1.link.got s2.link.got i.more g.more i.grows g.grows;
   sent_is = g.sent_is ∙ i.sent_is;
   later = le_trans i.later g.later;
   came =
@@ -89,7 +89,7 @@ rejoined so_far unread used = append_assoc so_far (take used unread) (drop used 
 
 -- the reader took all that was unread
 pub reading_on : {s0 s1 : Side} {reader reader' : ReplyReader} {left : ℕ} {fed : Fed} {unread : List ℕ} (i : IsReading s0 s1 reader left) → Feeds i.so_far s1.unread fed reader' → fed.what ≡ More
-    → unread ≡ drop fed.used s1.unread → IsReading s0 (side s1.sent s1.got s1.ended s1.faults unread) reader' (left - fed.used)
+    → unread ≡ drop fed.used s1.unread → IsReading s0 (side s1.link unread) reader' (left - fed.used)
 reading_on {s0} {s1} {reader} {reader'} {left} {fed} {unread} i f w d =
     let m = more_left i f w in
     let n : length (i.so_far ++ take fed.used s1.unread) ≡ length i.so_far + length (take fed.used s1.unread) = length-append i.so_far (take fed.used s1.unread) in
@@ -116,7 +116,7 @@ none_added unread more e =
     let m : length (unread ++ more) ≡ length unread + length more = length-append unread more in
     nil_from_length more (omega (arith, n, m))
 
-cut_off_answer : (why : Lost) (T : Type 0) (bytes : List ℕ) (s0 s1 s2 : Side) → (heard bytes).what ≡ More → s0.faults ≤ s1.faults → IsCutOff why s1 s2 → IsAnswer {T = T} (Err why) bytes [] s0 s2
+cut_off_answer : (why : Lost) (T : Type 0) (bytes : List ℕ) (s0 s1 s2 : Side) → (heard bytes).what ≡ More → s0.link.faults ≤ s1.link.faults → IsCutOff why s1 s2 → IsAnswer {T = T} (Err why) bytes [] s0 s2
 cut_off_answer LinkFault T bytes s0 s1 s2 h f c = (h, omega (arith, c.0, f), c.1)
 cut_off_answer Ended T bytes s0 s1 s2 h f c = (h, c)
 cut_off_answer BadReply T bytes s0 s1 s2 h f c = absurd c
@@ -124,26 +124,26 @@ cut_off_answer TooLong T bytes s0 s1 s2 h f c = absurd c
 
 -- the reply was not whole yet, and no more bytes came
 pub heard_cut_off : (why : Lost) {T : Type 0} {s0 s1 s2 : Side} {reader reader' : ReplyReader} {left : ℕ} {fed : Fed} {unread : List ℕ} (i : IsReading s0 s1 reader left) → Feeds i.so_far s1.unread fed reader'
-    → fed.what ≡ More → Gets (side s1.sent s1.got s1.ended s1.faults unread) s2 → s2.unread ≡ unread → IsCutOff why (side s1.sent s1.got s1.ended s1.faults unread) s2 → Hears {T = T} s0 s2 [] (Err why)
+    → fed.what ≡ More → Gets (side s1.link unread) s2 → s2.unread ≡ unread → IsCutOff why (side s1.link unread) s2 → Hears {T = T} s0 s2 [] (Err why)
 heard_cut_off why {T} {s0} {s1} {s2} {reader} {reader'} {left} {fed} {unread} i f w g u c =
     let none : g.more ≡ [] = none_added unread g.more (sym u ∙ g.added) in
     let more : (heard (s0.unread ++ (i.more ++ g.more))).what ≡ More =
     ap (λ (m : List ℕ). (heard (s0.unread ++ (i.more ++ m))).what) none ∙ ap (λ (m : List ℕ). (heard (s0.unread ++ m)).what) (append-nil i.more) ∙ heard_came i f ∙ w in
     record {
       more = i.more ++ g.more;
-      grows = extended-next s0.got s1.got s2.got i.more g.more i.grows g.grows;
+      grows = extended-next s0.link.got s1.link.got s2.link.got i.more g.more i.grows g.grows;
       sent_is = g.sent_is ∙ i.sent_is;
       later = le_trans i.later g.later;
-      answer = cut_off_answer why T (s0.unread ++ (i.more ++ g.more)) s0 (side s1.sent s1.got s1.ended s1.faults unread) s2 more i.later c;
+      answer = cut_off_answer why T (s0.unread ++ (i.more ++ g.more)) s0 (side s1.link unread) s2 more i.later c;
     }
 
 -- no reply goes on so
 pub heard_bad : {T : Type 0} {s0 s1 : Side} {reader reader' : ReplyReader} {left : ℕ} {fed : Fed} (unread : List ℕ) (at : ℕ) (i : IsReading s0 s1 reader left) → Feeds i.so_far s1.unread fed reader' → fed.what ≡ Bad at
-    → Hears {T = T} s0 (side s1.sent s1.got s1.ended s1.faults unread) [] (Err BadReply)
+    → Hears {T = T} s0 (side s1.link unread) [] (Err BadReply)
 heard_bad unread at i f w = record { more = i.more; grows = i.grows; sent_is = i.sent_is; later = i.later; answer = (at, heard_came i f ∙ w) }
 
 pub heard_too_long : {T : Type 0} {s0 s1 : Side} {reader reader' : ReplyReader} {left : ℕ} {fed : Fed} (unread : List ℕ) (i : IsReading s0 s1 reader left) → Feeds i.so_far s1.unread fed reader' → fed.what ≡ heard_as.TooLong
-    → Hears {T = T} s0 (side s1.sent s1.got s1.ended s1.faults unread) [] (Err TooLong)
+    → Hears {T = T} s0 (side s1.link unread) [] (Err TooLong)
 heard_too_long unread i f w = record { more = i.more; grows = i.grows; sent_is = i.sent_is; later = i.later; answer = heard_came i f ∙ w }
 
 -- the bytes that a reader took, and those behind them
@@ -157,7 +157,7 @@ behind so_far unread bytes used n e u =
 
 -- a whole reply was read
 pub heard_whole : {T : Type 0} (x : T) {s0 s1 : Side} {reader reader' : ReplyReader} {left : ℕ} {fed : Fed} {unread : List ℕ} (i : IsReading s0 s1 reader left) → Feeds i.so_far s1.unread fed reader' → fed.what ≡ Whole
-    → unread ≡ drop fed.used s1.unread → Hears s0 (side s1.sent s1.got s1.ended s1.faults unread) (i.so_far ++ take fed.used s1.unread) (Ok x)
+    → unread ≡ drop fed.used s1.unread → Hears s0 (side s1.link unread) (i.so_far ++ take fed.used s1.unread) (Ok x)
 heard_whole x {s0} {s1} {reader} {reader'} {left} {fed} {unread} i f w d =
     let bytes = s0.unread ++ i.more in
     let used : length i.so_far + fed.used ≡ (heard bytes).used = f.used ∙ ap (λ (b : List ℕ). (heard b).used) i.came in

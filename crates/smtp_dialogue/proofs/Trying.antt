@@ -22,7 +22,7 @@ use Rattle.smtp_dialogue.proofs.Parts.{speaks_same, speaks_ends, asked_then, ask
 rose_later : (a b c : ℕ) → a ≤ b → Rose b c → Rose a c
 rose_later a b c l r = omega arith
 
-asks_later : {T : Type 0} (words : List ℕ) (old mid : Side) (reply : List ℕ) (x : T) → Asks words old mid reply (Ok x) → old.faults ≤ mid.faults
+asks_later : {T : Type 0} (words : List ℕ) (old mid : Side) (reply : List ℕ) (x : T) → Asks words old mid reply (Ok x) → old.link.faults ≤ mid.link.faults
 asks_later words old mid reply x asks = elim asks [
   | inl p ↦ absurd (let r : Ok x ≡ Err LinkFault = p.result_is in cc)
   | inr p ↦ le_trans p.says_them.later p.hears.later
@@ -33,22 +33,22 @@ pub tries_then : (part : List ℕ → Spoken) (next : ℕ → List ℕ → List 
     → ((bytes : List ℕ) → part bytes ≡ says words (answered next lost_for bytes)) → Asks words old mid reply (Ok x) → Tries (next (code_of reply) (one_line_text reply)) mid new tried → Tries part old new tried
 tries_then part next {T} {words} {old} {mid} {new} {reply} {x} {tried} e asks t = record {
   speaks = asked_then part next lost_for e asks t.speaks;
-  fault = λ f. rose_later old.faults mid.faults new.faults (asks_later words old mid reply x asks) (t.fault f);
+  fault = λ f. rose_later old.link.faults mid.link.faults new.link.faults (asks_later words old mid reply x asks) (t.fault f);
   ended = t.ended;
   delivered = t.delivered;
   proper = t.proper;
 }
 
-rose_of : {T : Type 0} (words : List ℕ) (old new : Side) (reply : List ℕ) (why : Lost) → Asks {T = T} words old new reply (Err why) → why ≡ LinkFault → Rose old.faults new.faults
+rose_of : {T : Type 0} (words : List ℕ) (old new : Side) (reply : List ℕ) (why : Lost) → Asks {T = T} words old new reply (Err why) → why ≡ LinkFault → Rose old.link.faults new.link.faults
 rose_of words old new reply LinkFault asks e = elim asks [
   | inl x ↦ x.fails.rose
-  | inr x ↦ rose_later old.faults x.mid.faults new.faults x.says_them.later x.hears.answer.1
+  | inr x ↦ rose_later old.link.faults x.mid.link.faults new.link.faults x.says_them.later x.hears.answer.1
 ]
 rose_of words old new reply Ended asks e = absurd cc
 rose_of words old new reply BadReply asks e = absurd cc
 rose_of words old new reply TooLong asks e = absurd cc
 
-ended_of : {T : Type 0} (words : List ℕ) (old new : Side) (reply : List ℕ) (why : Lost) → Asks {T = T} words old new reply (Err why) → why ≡ Ended → new.ended ≡ true
+ended_of : {T : Type 0} (words : List ℕ) (old new : Side) (reply : List ℕ) (why : Lost) → Asks {T = T} words old new reply (Err why) → why ≡ Ended → new.link.ended ≡ true
 ended_of words old new reply Ended asks e = elim asks [
   | inl x ↦ absurd (let r = x.result_is in cc)
   | inr x ↦ x.hears.answer.1

@@ -1,6 +1,7 @@
 -- What a call of the dialogue does, by the part of the transcript that it stands for.
 use Rattle.std.specs.Prelude.{◌≡◌, ℕ, ◌≤◌, ◌⊎◌, List, ◌++◌, codes, Bool, true, false, Option}
 use Rattle.kumo_base.specs.Causes.{Rose}
+use Rattle.kumo_outside.specs.Sessions.{LinkSeen}
 use Rattle.kumo_outside.specs.Told.{extended, TakesFront, TakesProperFront}
 use Rattle.smtp_reply.specs.declared.reply.Outcome.{Outcome}
 use Rattle.smtp_dialogue.specs.Body.{crlf}
@@ -8,44 +9,41 @@ use Rattle.smtp_dialogue.specs.Transcript.{Spoken, waiting, is_alive}
 
 -- a link and the bytes that were got over it and not yet read
 pub record Side : Type 0 where
-  pub sent : Option (List ℕ)
-  pub got : Option (List ℕ)
-  pub ended : Bool
-  pub faults : ℕ
+  pub link : LinkSeen
   pub unread : List ℕ
 
-abbrev pub side : Option (List ℕ) → Option (List ℕ) → Bool → ℕ → List ℕ → Side
-side sent got ended faults unread = record { sent = sent; got = got; ended = ended; faults = faults; unread = unread }
+abbrev pub side : LinkSeen → List ℕ → Side
+side link unread = record { link = link; unread = unread }
 
 -- the part was gone through: all of it was sent, and its end is what was answered
 pub record IsWhole (t : Spoken) (old new : Side) (outcomes : List Outcome) (is_left_alive : Bool) : Type 0 where
-  pub sent : new.sent ≡ extended old.sent t.sent
+  pub sent : new.link.sent ≡ extended old.link.sent t.sent
   pub outcomes_are : outcomes ≡ t.outcomes
   pub alive_is : is_left_alive ≡ is_alive t.standing
   pub left : is_left_alive ≡ true → new.unread ≡ t.rest
-  pub waited : t.standing ≡ waiting → new.ended ≡ true
+  pub waited : t.standing ≡ waiting → new.link.ended ≡ true
 
 -- the last words of the part are RSET, and all before them was sent
 pub record IsCutAtReset (t : Spoken) (old new : Side) : Type 0 where
   pub before : List ℕ
   pub last : t.sent ≡ before ++ (codes "RSET" ++ crlf)
-  pub sent_before : TakesFront (extended old.sent before) new.sent (codes "RSET" ++ crlf)
+  pub sent_before : TakesFront (extended old.link.sent before) new.link.sent (codes "RSET" ++ crlf)
 
 -- the link failed on the way: something was not sent, or a reply that was due is not whole. The outcomes are those of a
 -- fault; what was decided before RSET stays decided.
 pub record IsCutShort (t : Spoken) (old new : Side) (at_fault outcomes : List Outcome) (is_left_alive : Bool) : Type 0 where
-  pub rose : Rose old.faults new.faults
+  pub rose : Rose old.link.faults new.link.faults
   pub alive_is : is_left_alive ≡ false
-  pub not_ended : new.ended ≡ false
-  pub front : TakesFront old.sent new.sent t.sent
-  pub short : (t.standing ≡ waiting) ⊎ TakesProperFront old.sent new.sent t.sent
+  pub not_ended : new.link.ended ≡ false
+  pub front : TakesFront old.link.sent new.link.sent t.sent
+  pub short : (t.standing ≡ waiting) ⊎ TakesProperFront old.link.sent new.link.sent t.sent
   pub outcomes_are : (outcomes ≡ at_fault) ⊎ ((outcomes ≡ t.outcomes) × IsCutAtReset t old new)
 
 -- the bytes that came in the call, whatever pieces they came in, make the part of the transcript what it is
 pub record Speaks (part : List ℕ → Spoken) (old new : Side) (at_fault outcomes : List Outcome) (is_left_alive : Bool) : Type 0 where
   pub more : List ℕ
-  pub grows : new.got ≡ extended old.got more
-  pub later : old.faults ≤ new.faults
+  pub grows : new.link.got ≡ extended old.link.got more
+  pub later : old.link.faults ≤ new.link.faults
   pub spoke :
       IsWhole (part (old.unread ++ more)) old new outcomes is_left_alive
       ⊎ IsCutShort (part (old.unread ++ more)) old new at_fault outcomes is_left_alive

@@ -1,6 +1,7 @@
 -- What the inner steps of the dialogue do: sending, listening, asking, and one try of a message.
 use Rattle.std.specs.Prelude.{◌≡◌, ℕ, ◌≤◌, ◌⊎◌, List, ◌++◌, take, drop, Bool, true, false, Option, Result, Ok, Err}
 use Rattle.kumo_base.specs.Causes.{Rose}
+use Rattle.kumo_outside.specs.Sessions.{LinkSeen}
 use Rattle.kumo_outside.specs.Told.{extended, TakesProperFront}
 use Rattle.smtp_reply.specs.declared.reply.Lost.{Lost}
 use Rattle.smtp_reply.specs.declared.reply.Lost.TheVariants.{LinkFault, Ended, BadReply, TooLong}
@@ -10,31 +11,31 @@ use Rattle.smtp_reply.specs.Replies.{heard}
 use Rattle.smtp_dialogue.specs.Speaks.{Side}
 
 -- the bytes were sent whole, and nothing was got
-pub record Sends (words : List ℕ) (sent sent' got got' : Option (List ℕ)) (faults faults' : ℕ) : Type 0 where
-  pub whole : sent' ≡ extended sent words
-  pub got_is : got' ≡ got
-  pub later : faults ≤ faults'
+pub record Sends (words : List ℕ) (old new : LinkSeen) : Type 0 where
+  pub whole : new.sent ≡ extended old.sent words
+  pub got_is : new.got ≡ old.got
+  pub later : old.faults ≤ new.faults
 
 -- the link failed before the bytes were sent whole
-pub record FailsToSend (words : List ℕ) (sent sent' got got' : Option (List ℕ)) (ended' : Bool) (faults faults' : ℕ) : Type 0 where
-  pub part : TakesProperFront sent sent' words
-  pub got_is : got' ≡ got
-  pub not_ended : ended' ≡ false
-  pub later : faults ≤ faults'
-  pub rose : Rose faults faults'
+pub record FailsToSend (words : List ℕ) (old new : LinkSeen) : Type 0 where
+  pub part : TakesProperFront old.sent new.sent words
+  pub got_is : new.got ≡ old.got
+  pub not_ended : new.ended ≡ false
+  pub later : old.faults ≤ new.faults
+  pub rose : Rose old.faults new.faults
 
 -- bytes came, and stand behind those that were not yet read
 pub record Gets (old new : Side) : Type 0 where
   pub more : List ℕ
-  pub grows : new.got ≡ extended old.got more
+  pub grows : new.link.got ≡ extended old.link.got more
   pub added : new.unread ≡ old.unread ++ more
-  pub sent_is : new.sent ≡ old.sent
-  pub later : old.faults ≤ new.faults
+  pub sent_is : new.link.sent ≡ old.link.sent
+  pub later : old.link.faults ≤ new.link.faults
 
 -- why no more bytes came
 abbrev pub IsCutOff : Lost → Side → Side → Type 0
-IsCutOff LinkFault old new = Rose old.faults new.faults × (new.ended ≡ false)
-IsCutOff Ended old new = new.ended ≡ true
+IsCutOff LinkFault old new = Rose old.link.faults new.link.faults × (new.link.ended ≡ false)
+IsCutOff Ended old new = new.link.ended ≡ true
 IsCutOff BadReply old new = ⊥
 IsCutOff TooLong old new = ⊥
 
@@ -47,29 +48,29 @@ pub record IsReply (bytes reply left : List ℕ) : Type 0 where
 -- the reply that the bytes begin with, or why they begin with none
 abbrev pub IsAnswer : {T : Type 0} → Result T Lost → List ℕ → List ℕ → Side → Side → Type 0
 IsAnswer (Ok x) bytes reply old new = IsReply bytes reply new.unread
-IsAnswer (Err LinkFault) bytes reply old new = ((heard bytes).what ≡ More) × Rose old.faults new.faults × (new.ended ≡ false)
-IsAnswer (Err Ended) bytes reply old new = ((heard bytes).what ≡ More) × (new.ended ≡ true)
+IsAnswer (Err LinkFault) bytes reply old new = ((heard bytes).what ≡ More) × Rose old.link.faults new.link.faults × (new.link.ended ≡ false)
+IsAnswer (Err Ended) bytes reply old new = ((heard bytes).what ≡ More) × (new.link.ended ≡ true)
 IsAnswer (Err BadReply) bytes reply old new = (at : ℕ) × ((heard bytes).what ≡ Bad at)
 IsAnswer (Err TooLong) bytes reply old new = (heard bytes).what ≡ heard_as.TooLong
 
 -- a reply was read, or why none was
 pub record Hears {T : Type 0} (old new : Side) (reply : List ℕ) (result : Result T Lost) : Type 0 where
   pub more : List ℕ
-  pub grows : new.got ≡ extended old.got more
-  pub sent_is : new.sent ≡ old.sent
-  pub later : old.faults ≤ new.faults
+  pub grows : new.link.got ≡ extended old.link.got more
+  pub sent_is : new.link.sent ≡ old.link.sent
+  pub later : old.link.faults ≤ new.link.faults
   pub answer : IsAnswer result (old.unread ++ more) reply old new
 
 -- the words were sent, and then a reply was read
 pub record AsksAndHears {T : Type 0} (words : List ℕ) (old new : Side) (reply : List ℕ) (result : Result T Lost) : Type 0 where
   pub mid : Side
   pub same : mid.unread ≡ old.unread
-  pub says_them : Sends words old.sent mid.sent old.got mid.got old.faults mid.faults
+  pub says_them : Sends words old.link mid.link
   pub hears : Hears mid new reply result
 
 pub record FailsToAsk {T : Type 0} (words : List ℕ) (old new : Side) (result : Result T Lost) : Type 0 where
   pub result_is : result ≡ Err LinkFault
-  pub fails : FailsToSend words old.sent new.sent old.got new.got new.ended old.faults new.faults
+  pub fails : FailsToSend words old.link new.link
 
 abbrev pub Asks : {T : Type 0} → List ℕ → Side → Side → List ℕ → Result T Lost → Type 0
 Asks words old new reply result = FailsToAsk words old new result ⊎ AsksAndHears words old new reply result

@@ -12,8 +12,8 @@ use Rattle.smtp_dialogue.specs.Speaks.{Side, Speaks}
 
 pub record Tries (part : List ℕ → Spoken) (old new : Side) (tried : Tried) : Type 0 where
   pub speaks : Speaks part old new (outcome.Lost LinkFault ∷ []) (tried.outcome ∷ []) tried.alive
-  pub fault : tried.outcome ≡ outcome.Lost LinkFault → Rose old.faults new.faults
-  pub ended : tried.outcome ≡ outcome.Lost Ended → new.ended ≡ true
+  pub fault : tried.outcome ≡ outcome.Lost LinkFault → Rose old.link.faults new.link.faults
+  pub ended : tried.outcome ≡ outcome.Lost Ended → new.link.ended ≡ true
   pub delivered : (reply : Reply) → tried.outcome ≡ outcome.Delivered reply → tried.alive ≡ true
   pub proper : IsProperOutcome tried.outcome
 

@@ -22,10 +22,10 @@ pub(crate) fn ask<L: Link>(
     scratch: &mut Scratch,
     reader: &mut ReplyReader,
 ) -> Result<(), Lost>
-    ensures opening { L.opening link.new ≡ L.opening link.old }
+    ensures opening { (L.seen link.new).opening ≡ (L.seen link.old).opening }
     ensures asks { (reply : List ℕ) × Asks (verb.now ++ argument.now ++ end.now)
-        (side (L.sent link.old) (L.got link.old) (L.ended link.old) (L.faults link.old) scratch.old)
-        (side (L.sent link.new) (L.got link.new) (L.ended link.new) (L.faults link.new) scratch.new) reply result
+        (side (L.seen link.old) scratch.old)
+        (side (L.seen link.new) scratch.new) reply result
         × IfOk result (λ _. Holds reader.new reply) }
 {
     match send_three(link, verb.as_bytes(), argument.as_bytes(), end.as_bytes()) {
@@ -42,10 +42,10 @@ pub(crate) fn ask_code<L: Link>(
     end: &str,
     scratch: &mut Scratch,
 ) -> Result<u16, Lost>
-    ensures opening { L.opening link.new ≡ L.opening link.old }
+    ensures opening { (L.seen link.new).opening ≡ (L.seen link.old).opening }
     ensures asks { (reply : List ℕ) × Asks (verb.now ++ argument.now ++ end.now)
-        (side (L.sent link.old) (L.got link.old) (L.ended link.old) (L.faults link.old) scratch.old)
-        (side (L.sent link.new) (L.got link.new) (L.ended link.new) (L.faults link.new) scratch.new) reply result
+        (side (L.seen link.old) scratch.old)
+        (side (L.seen link.new) scratch.new) reply result
         × IfOk result (λ code. code ≡ code_of reply) }
 {
     match send_three(link, verb.as_bytes(), argument.as_bytes(), end.as_bytes()) {
@@ -61,10 +61,10 @@ pub(crate) fn ask_body<L: Link>(
     scratch: &mut Scratch,
     reader: &mut ReplyReader,
 ) -> Result<(), Lost>
-    ensures opening { L.opening link.new ≡ L.opening link.old }
+    ensures opening { (L.seen link.new).opening ≡ (L.seen link.old).opening }
     ensures asks { (reply : List ℕ) × Asks (wire body.now)
-        (side (L.sent link.old) (L.got link.old) (L.ended link.old) (L.faults link.old) scratch.old)
-        (side (L.sent link.new) (L.got link.new) (L.ended link.new) (L.faults link.new) scratch.new) reply result
+        (side (L.seen link.old) scratch.old)
+        (side (L.seen link.new) scratch.new) reply result
         × IfOk result (λ _. Holds reader.new reply) }
 {
     match send_body(link, body) {

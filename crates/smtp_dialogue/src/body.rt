@@ -10,10 +10,10 @@ use kumo_outside::Link;
 
 /// Sends the lines of a body and the line `.`. After `Failed` a front of them was sent, and not all.
 pub(crate) fn send_body<L: Link>(link: &mut L, body: &str) -> Result<(), Failed>
-    ensures opening { L.opening link.new ≡ L.opening link.old }
+    ensures opening { (L.seen link.new).opening ≡ (L.seen link.old).opening }
     ensures sends { MatchResult result
-        (λ _. Sends (wire body.now) (L.sent link.old) (L.sent link.new) (L.got link.old) (L.got link.new) (L.faults link.old) (L.faults link.new))
-        (λ _. FailsToSend (wire body.now) (L.sent link.old) (L.sent link.new) (L.got link.old) (L.got link.new) (L.ended link.new) (L.faults link.old) (L.faults link.new)) }
+        (λ _. Sends (wire body.now) (L.seen link.old) (L.seen link.new))
+        (λ _. FailsToSend (wire body.now) (L.seen link.old) (L.seen link.new)) }
 {
     let mut rest = body.as_bytes();
     while !rest.is_empty() {
@@ -26,10 +26,10 @@ pub(crate) fn send_body<L: Link>(link: &mut L, body: &str) -> Result<(), Failed>
 
 /// Sends one line with its end, and a `.` before it where it begins with one.
 fn send_line<L: Link>(link: &mut L, line: &[u8]) -> Result<(), Failed>
-    ensures opening { L.opening link.new ≡ L.opening link.old }
+    ensures opening { (L.seen link.new).opening ≡ (L.seen link.old).opening }
     ensures sends { MatchResult result
-        (λ _. Sends (wire_line line.now) (L.sent link.old) (L.sent link.new) (L.got link.old) (L.got link.new) (L.faults link.old) (L.faults link.new))
-        (λ _. FailsToSend (wire_line line.now) (L.sent link.old) (L.sent link.new) (L.got link.old) (L.got link.new) (L.ended link.new) (L.faults link.old) (L.faults link.new)) }
+        (λ _. Sends (wire_line line.now) (L.seen link.old) (L.seen link.new))
+        (λ _. FailsToSend (wire_line line.now) (L.seen link.old) (L.seen link.new)) }
 {
     send_three(link, stuffing(line), line, b"\r\n")
 }

@@ -60,13 +60,13 @@ pub fn attempt<L: Link>(
     room: Room,
 ) -> Tried
     requires { room ≡ [] }
-    ensures opening { L.opening link.new ≡ L.opening link.old }
+    ensures opening { (L.seen link.new).opening ≡ (L.seen link.old).opening }
     ensures spoken { Speaks (attempted sender.now recipient.now body.now)
-        (side (L.sent link.old) (L.got link.old) (L.ended link.old) (L.faults link.old) scratch.old)
-        (side (L.sent link.new) (L.got link.new) (L.ended link.new) (L.faults link.new) scratch.new)
+        (side (L.seen link.old) scratch.old)
+        (side (L.seen link.new) scratch.new)
         (Outcome.Lost LinkFault ∷ []) (result.outcome ∷ []) result.alive }
-    ensures fault { result.outcome ≡ Outcome.Lost LinkFault → Rose (L.faults link.old) (L.faults link.new) }
-    ensures ended { result.outcome ≡ Outcome.Lost Ended → L.ended link.new ≡ true }
+    ensures fault { result.outcome ≡ Outcome.Lost LinkFault → Rose (L.seen link.old).faults (L.seen link.new).faults }
+    ensures ended { result.outcome ≡ Outcome.Lost Ended → (L.seen link.new).ended ≡ true }
     ensures delivered { (reply : Reply) → result.outcome ≡ Outcome.Delivered reply → result.alive ≡ true }
     ensures proper { IsProperOutcome result.outcome }
 {
@@ -86,10 +86,10 @@ fn after_sender<L: Link>(
     mut reader: ReplyReader,
 ) -> Tried
     requires { HoldsReply reader }
-    ensures opening { L.opening link.new ≡ L.opening link.old }
+    ensures opening { (L.seen link.new).opening ≡ (L.seen link.old).opening }
     ensures tries { (reply : List ℕ) → Holds reader reply → Tries (after_sender recipient.now body.now (code_of reply) (one_line_text reply))
-        (side (L.sent link.old) (L.got link.old) (L.ended link.old) (L.faults link.old) scratch.old)
-        (side (L.sent link.new) (L.got link.new) (L.ended link.new) (L.faults link.new) scratch.new) result }
+        (side (L.seen link.old) scratch.old)
+        (side (L.seen link.new) scratch.new) result }
 {
     if !is_positive(reader.code()) {
         return refused(link, scratch, reader.take());
@@ -108,10 +108,10 @@ fn after_recipient<L: Link>(
     mut reader: ReplyReader,
 ) -> Tried
     requires { HoldsReply reader }
-    ensures opening { L.opening link.new ≡ L.opening link.old }
+    ensures opening { (L.seen link.new).opening ≡ (L.seen link.old).opening }
     ensures tries { (reply : List ℕ) → Holds reader reply → Tries (after_recipient body.now (code_of reply) (one_line_text reply))
-        (side (L.sent link.old) (L.got link.old) (L.ended link.old) (L.faults link.old) scratch.old)
-        (side (L.sent link.new) (L.got link.new) (L.ended link.new) (L.faults link.new) scratch.new) result }
+        (side (L.seen link.old) scratch.old)
+        (side (L.seen link.new) scratch.new) result }
 {
     if !is_positive(reader.code()) {
         return refused(link, scratch, reader.take());
@@ -130,10 +130,10 @@ fn after_data<L: Link>(
     mut reader: ReplyReader,
 ) -> Tried
     requires { HoldsReply reader }
-    ensures opening { L.opening link.new ≡ L.opening link.old }
+    ensures opening { (L.seen link.new).opening ≡ (L.seen link.old).opening }
     ensures tries { (reply : List ℕ) → Holds reader reply → Tries (after_data body.now (code_of reply) (one_line_text reply))
-        (side (L.sent link.old) (L.got link.old) (L.ended link.old) (L.faults link.old) scratch.old)
-        (side (L.sent link.new) (L.got link.new) (L.ended link.new) (L.faults link.new) scratch.new) result }
+        (side (L.seen link.old) scratch.old)
+        (side (L.seen link.new) scratch.new) result }
 {
     if reader.code() != 354 {
         return refused(link, scratch, reader.take());
@@ -172,10 +172,10 @@ fn after_body(reply: Reply) -> Tried
 /// A command before the body was not granted.
 fn refused<L: Link>(link: &mut L, scratch: &mut Scratch, reply: Reply) -> Tried
     requires { IsReplyText reply.code reply.text }
-    ensures opening { L.opening link.new ≡ L.opening link.old }
+    ensures opening { (L.seen link.new).opening ≡ (L.seen link.old).opening }
     ensures tries { Tries (refused reply.code reply.text)
-        (side (L.sent link.old) (L.got link.old) (L.ended link.old) (L.faults link.old) scratch.old)
-        (side (L.sent link.new) (L.got link.new) (L.ended link.new) (L.faults link.new) scratch.new) result }
+        (side (L.seen link.old) scratch.old)
+        (side (L.seen link.new) scratch.new) result }
 {
     let code = reply.code;
     match code / 100 {
@@ -189,11 +189,11 @@ fn refused<L: Link>(link: &mut L, scratch: &mut Scratch, reply: Reply) -> Tried
 fn reset<L: Link>(link: &mut L, scratch: &mut Scratch, code: u16, decided: Outcome) -> Tried
     requires decided { IsDecided decided }
     requires no_delivery { (reply : Reply) → decided ≡ Outcome.Delivered reply → ⊥ }
-    ensures opening { L.opening link.new ≡ L.opening link.old }
+    ensures opening { (L.seen link.new).opening ≡ (L.seen link.old).opening }
     ensures kept { result.outcome ≡ decided }
     ensures tries { Tries (resets decided code)
-        (side (L.sent link.old) (L.got link.old) (L.ended link.old) (L.faults link.old) scratch.old)
-        (side (L.sent link.new) (L.got link.new) (L.ended link.new) (L.faults link.new) scratch.new) result }
+        (side (L.seen link.old) scratch.old)
+        (side (L.seen link.new) scratch.new) result }
 {
     if code == 421 {
         return Tried {

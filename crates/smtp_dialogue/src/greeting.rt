@@ -22,10 +22,10 @@ pub enum Greeted {
 
 /// Reads the greeting, and says EHLO with this name. It empties the scratch first, since the link is new.
 pub fn greet<L: Link>(link: &mut L, ehlo: &str, scratch: &mut Scratch) -> Greeted
-    ensures opening { L.opening link.new ≡ L.opening link.old }
+    ensures opening { (L.seen link.new).opening ≡ (L.seen link.old).opening }
     ensures spoken { Speaks (greeting ehlo.now)
-        (side (L.sent link.old) (L.got link.old) (L.ended link.old) (L.faults link.old) [])
-        (side (L.sent link.new) (L.got link.new) (L.ended link.new) (L.faults link.new) scratch.new)
+        (side (L.seen link.old) [])
+        (side (L.seen link.new) scratch.new)
         [] [] (is_ready result) }
 {
     scratch.clear();
@@ -37,10 +37,10 @@ pub fn greet<L: Link>(link: &mut L, ehlo: &str, scratch: &mut Scratch) -> Greete
 
 /// The greeting is read: EHLO.
 fn say_hello<L: Link>(link: &mut L, ehlo: &str, scratch: &mut Scratch, code: u16) -> Greeted
-    ensures opening { L.opening link.new ≡ L.opening link.old }
+    ensures opening { (L.seen link.new).opening ≡ (L.seen link.old).opening }
     ensures spoken { (text : List ℕ) → Speaks (after_greeting ehlo.now code text)
-        (side (L.sent link.old) (L.got link.old) (L.ended link.old) (L.faults link.old) scratch.old)
-        (side (L.sent link.new) (L.got link.new) (L.ended link.new) (L.faults link.new) scratch.new)
+        (side (L.seen link.old) scratch.old)
+        (side (L.seen link.new) scratch.new)
         [] [] (is_ready result) }
 {
     if !is_positive(code) {

@@ -13,15 +13,15 @@ use smtp_reply::{Heard, Lost, REPLY_LIMIT, ReplyReader};
 fn receive<L: Link>(link: &mut L, unread: &mut Unread, most: usize) -> Result<(), Lost>
     requires some { 0 < most }
     requires room { length unread.old + most ≤ 4096 }
-    ensures opening { L.opening link.new ≡ L.opening link.old }
+    ensures opening { (L.seen link.new).opening ≡ (L.seen link.old).opening }
     ensures gets { Gets
-        (side (L.sent link.old) (L.got link.old) (L.ended link.old) (L.faults link.old) unread.old)
-        (side (L.sent link.new) (L.got link.new) (L.ended link.new) (L.faults link.new) unread.new) }
+        (side (L.seen link.old) unread.old)
+        (side (L.seen link.new) unread.new) }
     ensures came { MatchResult result
         (λ _. length unread.old < length unread.new)
         (λ why. (unread.new ≡ unread.old) × IsCutOff why
-        (side (L.sent link.old) (L.got link.old) (L.ended link.old) (L.faults link.old) unread.old)
-        (side (L.sent link.new) (L.got link.new) (L.ended link.new) (L.faults link.new) unread.new)) }
+        (side (L.seen link.old) unread.old)
+        (side (L.seen link.new) unread.new)) }
 {
     let mut buffer = [0; REPLY_LIMIT];
     let (free, _) = buffer.split_at_mut(most);
@@ -42,10 +42,10 @@ fn read_reply<L: Link>(
     unread: &mut Unread,
     reader: &mut ReplyReader,
 ) -> Result<(), Lost>
-    ensures opening { L.opening link.new ≡ L.opening link.old }
+    ensures opening { (L.seen link.new).opening ≡ (L.seen link.old).opening }
     ensures hears { (reply : List ℕ) × Hears
-        (side (L.sent link.old) (L.got link.old) (L.ended link.old) (L.faults link.old) unread.old)
-        (side (L.sent link.new) (L.got link.new) (L.ended link.new) (L.faults link.new) unread.new) reply result
+        (side (L.seen link.old) unread.old)
+        (side (L.seen link.new) unread.new) reply result
         × IfOk result (λ _. Holds reader.new reply) }
 {
     reader.restart();
@@ -72,10 +72,10 @@ pub(crate) fn take_reply<L: Link>(
     scratch: &mut Scratch,
     reader: &mut ReplyReader,
 ) -> Result<(), Lost>
-    ensures opening { L.opening link.new ≡ L.opening link.old }
+    ensures opening { (L.seen link.new).opening ≡ (L.seen link.old).opening }
     ensures hears { (reply : List ℕ) × Hears
-        (side (L.sent link.old) (L.got link.old) (L.ended link.old) (L.faults link.old) scratch.old)
-        (side (L.sent link.new) (L.got link.new) (L.ended link.new) (L.faults link.new) scratch.new) reply result
+        (side (L.seen link.old) scratch.old)
+        (side (L.seen link.new) scratch.new) reply result
         × IfOk result (λ _. Holds reader.new reply) }
 {
     read_reply(link, &mut scratch.unread, reader)
@@ -83,10 +83,10 @@ pub(crate) fn take_reply<L: Link>(
 
 /// Reads one reply of which the code alone is wanted.
 pub(crate) fn take_code<L: Link>(link: &mut L, scratch: &mut Scratch) -> Result<u16, Lost>
-    ensures opening { L.opening link.new ≡ L.opening link.old }
+    ensures opening { (L.seen link.new).opening ≡ (L.seen link.old).opening }
     ensures hears { (reply : List ℕ) × Hears
-        (side (L.sent link.old) (L.got link.old) (L.ended link.old) (L.faults link.old) scratch.old)
-        (side (L.sent link.new) (L.got link.new) (L.ended link.new) (L.faults link.new) scratch.new) reply result
+        (side (L.seen link.old) scratch.old)
+        (side (L.seen link.new) scratch.new) reply result
         × IfOk result (λ code. code ≡ code_of reply) }
 {
     read_reply(link, &mut scratch.unread, &mut scratch.reader)?;

@@ -9,10 +9,10 @@ use kumo_outside::Link;
 
 /// Says QUIT and waits for the reply, which decides nothing.
 pub fn farewell<L: Link>(link: &mut L, scratch: &mut Scratch)
-    ensures opening { L.opening link.new ≡ L.opening link.old }
+    ensures opening { (L.seen link.new).opening ≡ (L.seen link.old).opening }
     ensures spoken { Speaks parting
-        (side (L.sent link.old) (L.got link.old) (L.ended link.old) (L.faults link.old) scratch.old)
-        (side (L.sent link.new) (L.got link.new) (L.ended link.new) (L.faults link.new) scratch.new)
+        (side (L.seen link.old) scratch.old)
+        (side (L.seen link.new) scratch.new)
         [] [] false }
 {
     let _answer = ask_code(link, "QUIT", "", "\r\n", scratch);

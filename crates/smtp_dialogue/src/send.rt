@@ -7,10 +7,10 @@ use kumo_outside::Link;
 
 /// Sends all bytes. After `Failed` a front of them was sent, and not all.
 pub(crate) fn send_all<L: Link>(link: &mut L, bytes: &[u8]) -> Result<(), Failed>
-    ensures opening { L.opening link.new ≡ L.opening link.old }
+    ensures opening { (L.seen link.new).opening ≡ (L.seen link.old).opening }
     ensures sends { MatchResult result
-        (λ _. Sends bytes.now (L.sent link.old) (L.sent link.new) (L.got link.old) (L.got link.new) (L.faults link.old) (L.faults link.new))
-        (λ _. FailsToSend bytes.now (L.sent link.old) (L.sent link.new) (L.got link.old) (L.got link.new) (L.ended link.new) (L.faults link.old) (L.faults link.new)) }
+        (λ _. Sends bytes.now (L.seen link.old) (L.seen link.new))
+        (λ _. FailsToSend bytes.now (L.seen link.old) (L.seen link.new)) }
 {
     let mut at = 0;
     while at < bytes.len() {
@@ -27,10 +27,10 @@ pub(crate) fn send_three<L: Link>(
     second: &[u8],
     third: &[u8],
 ) -> Result<(), Failed>
-    ensures opening { L.opening link.new ≡ L.opening link.old }
+    ensures opening { (L.seen link.new).opening ≡ (L.seen link.old).opening }
     ensures sends { MatchResult result
-        (λ _. Sends (first.now ++ second.now ++ third.now) (L.sent link.old) (L.sent link.new) (L.got link.old) (L.got link.new) (L.faults link.old) (L.faults link.new))
-        (λ _. FailsToSend (first.now ++ second.now ++ third.now) (L.sent link.old) (L.sent link.new) (L.got link.old) (L.got link.new) (L.ended link.new) (L.faults link.old) (L.faults link.new)) }
+        (λ _. Sends (first.now ++ second.now ++ third.now) (L.seen link.old) (L.seen link.new))
+        (λ _. FailsToSend (first.now ++ second.now ++ third.now) (L.seen link.old) (L.seen link.new)) }
 {
     send_all(link, first)?;
     send_all(link, second)?;

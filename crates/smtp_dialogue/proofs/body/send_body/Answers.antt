@@ -10,7 +10,7 @@ pub loop-rest-init : goal.loop-rest-init
 loop-rest-init g c = record {
   front = [];
   opening = refl;
-  sends = sends_none _ _ _;
+  sends = sends_none _;
   left = ap (λ (body : List ℕ). flat_map wire_line (body_lines body)) c.as_bytes-rest.ensures.value;
 }
 

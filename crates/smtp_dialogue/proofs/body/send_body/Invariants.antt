@@ -7,8 +7,8 @@ use Rattle.smtp_dialogue.proofs.body.send_body.Given as goal
 abbrev pub invariant-loop-rest : goal.invariant-loop-rest
 invariant-loop-rest g l = record {
   front : List ℕ;
-  opening : g.L.Link.opening l.link ≡ g.L.Link.opening l.fn.link;
-  sends : Sends front (g.L.Link.sent l.fn.link) (g.L.Link.sent l.link) (g.L.Link.got l.fn.link) (g.L.Link.got l.link) (g.L.Link.faults l.fn.link) (g.L.Link.faults l.link);
+  opening : (g.L.Link.seen l.link).opening ≡ (g.L.Link.seen l.fn.link).opening;
+  sends : Sends front (g.L.Link.seen l.fn.link) (g.L.Link.seen l.link);
   left : front ++ flat_map wire_line (body_lines l.rest) ≡ flat_map wire_line (body_lines l.body);
 }
 

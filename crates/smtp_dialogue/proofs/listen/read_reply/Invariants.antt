@@ -6,8 +6,8 @@ use Rattle.smtp_dialogue.proofs.listen.read_reply.Given as goal
 -- what came so far is what the reader took and what is unread
 abbrev pub invariant-loop-left : goal.invariant-loop-left
 invariant-loop-left g l = record {
-  opening : g.L.Link.opening l.link ≡ g.L.Link.opening l.fn.link;
-  reading : IsReading (side (g.L.Link.sent l.fn.link) (g.L.Link.got l.fn.link) (g.L.Link.ended l.fn.link) (g.L.Link.faults l.fn.link) l.fn.unread) (side (g.L.Link.sent l.link) (g.L.Link.got l.link) (g.L.Link.ended l.link) (g.L.Link.faults l.link) l.unread) l.reader l.left;
+  opening : (g.L.Link.seen l.link).opening ≡ (g.L.Link.seen l.fn.link).opening;
+  reading : IsReading (side (g.L.Link.seen l.fn.link) l.fn.unread) (side (g.L.Link.seen l.link) l.unread) l.reader l.left;
 }
 
 abbrev pub decreases-loop-left : goal.decreases-loop-left

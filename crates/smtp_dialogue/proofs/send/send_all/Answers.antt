@@ -3,7 +3,7 @@ use Rattle.smtp_dialogue.proofs.Sending.{sends_none, send_more}
 use Rattle.smtp_dialogue.proofs.send.send_all.Goals as goal
 
 pub loop-at-init : goal.loop-at-init
-loop-at-init g c = record { within = omega arith; opening = refl; sends = sends_none _ _ _ }
+loop-at-init g c = record { within = omega arith; opening = refl; sends = sends_none _ }
 
 pub loop-at-preserved : goal.loop-at-preserved
 loop-at-preserved g c = record {

@@ -6,8 +6,8 @@ use Rattle.smtp_dialogue.proofs.send.send_all.Given as goal
 abbrev pub invariant-loop-at : goal.invariant-loop-at
 invariant-loop-at g l = record {
   within : l.at ≤ length l.bytes;
-  opening : g.L.Link.opening l.link ≡ g.L.Link.opening l.fn.link;
-  sends : Sends (take l.at l.bytes) (g.L.Link.sent l.fn.link) (g.L.Link.sent l.link) (g.L.Link.got l.fn.link) (g.L.Link.got l.link) (g.L.Link.faults l.fn.link) (g.L.Link.faults l.link);
+  opening : (g.L.Link.seen l.link).opening ≡ (g.L.Link.seen l.fn.link).opening;
+  sends : Sends (take l.at l.bytes) (g.L.Link.seen l.fn.link) (g.L.Link.seen l.link);
 }
 
 abbrev pub decreases-loop-at : goal.decreases-loop-at
