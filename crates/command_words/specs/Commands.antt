@@ -2,8 +2,9 @@
 use Rattle.std.specs.Prelude.{ℕ, ◌-◌, ◌^◌, List, [], ◌∷◌, ◌++◌, Option, Some, None, unwrap_or, option_map, option_and_then, if◌then◌else◌, bytes_eq, codes, IsTrue, ⊤}
 use Rattle.std.specs.Str.{str_to_ascii_lowercase}
 use Rattle.queue_name.specs.QueueName.{Name, is_name}
-use Rattle.kumo_base.specs.declared.moment.TheConstants.{LAST_MOMENT}
-use Rattle.command_words.specs.declared.numbers.TheConstants.{GREATEST_WORKERS, GREATEST_LOAD}
+use Rattle.kumo_base.specs.Limits.{latest_moment}
+use Rattle.policy_core.specs.Limits.{unspecified}
+use Rattle.command_words.specs.Limits.{greatest_workers, greatest_load}
 use Rattle.command_words.specs.Options.{Given, options_in, value_of, are_allowed, number_in}
 
 -- the names of the policy texts, of those that are given
@@ -73,7 +74,7 @@ name_asked os domain = record {
 }
 
 abbrev pub question_about : List Given → Name → Question
-question_about os name = record { texts = texts_of os; name = name; source = unwrap_or (value_of (codes "--source") os) (codes "unspecified") }
+question_about os name = record { texts = texts_of os; name = name; source = unwrap_or (value_of (codes "--source") os) unspecified }
 
 abbrev pub question_if_name : List Given → Name → Option Command
 question_if_name os name = if is_name name then Some (explain (question_about os name)) else None
@@ -81,7 +82,7 @@ question_if_name os name = if is_name name then Some (explain (question_about os
 -- a moment, where the option is given; none where its value is no moment
 abbrev pub given_moment : Option (List ℕ) → Option (Option ℕ)
 given_moment None = Some None
-given_moment (Some text) = option_map (λ m. Some m) (number_in 0 LAST_MOMENT text)
+given_moment (Some text) = option_map (λ m. Some m) (number_in 0 latest_moment text)
 
 abbrev pub sending_of : List Given → List ℕ → Option ℕ → Option ℕ → Sending
 sending_of os mail until start = record {
@@ -104,11 +105,11 @@ sending_in os =
     (value_of (codes "--mail") os)
 
 unfoldable pub workers_in : List Given → Option ℕ
-workers_in os = option_and_then (number_in 1 GREATEST_WORKERS) (value_of (codes "--workers") os)
+workers_in os = option_and_then (number_in 1 greatest_workers) (value_of (codes "--workers") os)
 
 unfoldable pub load_in : List Given → Option Command
 load_in os =
-    option_and_then (λ seed. option_map (load seed) (option_and_then (number_in 1 GREATEST_LOAD) (value_of (codes "--count") os)))
+    option_and_then (λ seed. option_map (load seed) (option_and_then (number_in 1 greatest_load) (value_of (codes "--count") os)))
     (option_and_then (number_in 0 (2 ^ 64 - 1)) (value_of (codes "--seed") os))
 
 unfoldable pub question_in : List Given → Option Command

@@ -13,6 +13,7 @@ use crate::numbers::{GREATEST_LOAD, GREATEST_WORKERS, number_in};
 use crate::options::{are_allowed, are_read, value_of};
 use crate::verb::Verb;
 use kumo_base::{LAST_MOMENT, Memory, Text};
+use policy_core::UNSPECIFIED;
 use queue_name::QueueName;
 use std::alloc::Global;
 
@@ -183,7 +184,7 @@ fn asked_of<'a>(options: &'a [Text], domain: &'a str) -> Asked<'a>
         domain,
         tenant: value_of(options, "--tenant"),
         campaign: value_of(options, "--campaign"),
-        source: value_of(options, "--source").unwrap_or("unspecified"),
+        source: value_of(options, "--source").unwrap_or(UNSPECIFIED),
     }
 }
 

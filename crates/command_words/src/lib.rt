@@ -10,6 +10,7 @@
 
 mod asked_name;
 mod command;
+pub mod laws;
 mod names;
 mod numbers;
 mod options;

@@ -2,14 +2,14 @@
 use Rattle.std.specs.Prelude.{ℕ, nat_lt, List, [], ◌∷◌, Bool, not, ◌&&◌, Option, Some, None, length, filter}
 use Rattle.queue_name.specs.declared.message.Message.{Message}
 use Rattle.history_core.specs.declared.entry.Entry.{Entry}
-use Rattle.history_core.specs.declared.entry.TheConstants.{READY_LIMIT}
-use Rattle.history_core.specs.History.{messages, unspecified, path_of}
+use Rattle.policy_core.specs.Limits.{default_max_ready, unspecified}
+use Rattle.history_core.specs.History.{messages, path_of}
 use Rattle.history_core.specs.Fate.{pending}
 use Rattle.history_core.specs.Connection.{ready, is_ready, is_in_flight}
 
 -- the path of the message has fewer ready messages than its limit
 abbrev pub has_pick : List Entry → Message → Bool
-has_pick h m = nat_lt (length (ready h (path_of (messages h) m.id unspecified))) READY_LIMIT
+has_pick h m = nat_lt (length (ready h (path_of (messages h) m.id unspecified))) default_max_ready
 
 -- the pending messages that are neither ready nor in flight and have a pick, in order of acceptance
 abbrev pub promotable : List Entry → List Message

@@ -1,7 +1,8 @@
 -- A history is a list of entries, the oldest first.
-use Rattle.std.specs.Prelude.{ℕ, ◌==◌, List, [], ◌∷◌, ◌++◌, Bool, true, false, Option, position, flat_map, fold, codes, if◌then◌else◌}
+use Rattle.std.specs.Prelude.{ℕ, ◌==◌, List, [], ◌∷◌, Bool, true, false, Option, position, flat_map, fold, if◌then◌else◌}
 use Rattle.std.specs.List.{list_any}
 use Rattle.queue_name.specs.declared.message.Message.{Message}
+use Rattle.policy_core.specs.PathTables.{path_text}
 use Rattle.history_core.specs.declared.entry.Entry.{Entry}
 use Rattle.history_core.specs.declared.entry.Event.{Event}
 use Rattle.history_core.specs.declared.entry.Event.TheVariants.{Accepted, Promoted, Opened, Begun, Ended, Closed, Stopped}
@@ -42,15 +43,11 @@ has_stopped h = list_any (λ e. is_stopped e.what) h
 abbrev pub last_moment : List Entry → ℕ
 last_moment h = fold (λ was e. e.at) 0 h
 
--- the one source that is there without a sources file
-abbrev pub unspecified : List ℕ
-unspecified = codes "unspecified"
-
 -- the domain of an accepted message
 abbrev pub domain_at : List Message → ℕ → List ℕ
 domain_at [] id = []
 domain_at (m ∷ ms) id = if has_id id m then m.name.domain else domain_at ms id
 
--- the text of the path of a message from a source: the source, `->` and the site, which is the domain
+-- the text of the path of a message from a source, with its domain as the site
 abbrev pub path_of : List Message → ℕ → List ℕ → List ℕ
-path_of ms id source = source ++ codes "->" ++ domain_at ms id
+path_of ms id source = path_text source (domain_at ms id)

@@ -5,7 +5,7 @@ use Rattle.queue_name.specs.Message.{IsProperMessage}
 use Rattle.smtp_reply.specs.ReplyText.{IsProperOutcome}
 use Rattle.smtp_reply.specs.declared.reply.Outcome.{Outcome}
 use Rattle.smtp_reply.specs.declared.reply.Outcome.TheVariants as outcome
-use Rattle.kumo_base.specs.declared.moment.TheConstants.{LAST_MOMENT}
+use Rattle.kumo_base.specs.Limits.{latest_moment}
 use Rattle.history_core.specs.declared.entry.Entry.{Entry}
 use Rattle.history_core.specs.declared.entry.Event.{Event}
 use Rattle.history_core.specs.declared.entry.Event.TheVariants.{Accepted, Promoted, Opened, Begun, Ended, Closed, Stopped}
@@ -13,7 +13,8 @@ use Rattle.history_core.specs.declared.entry.Next.{Next}
 use Rattle.history_core.specs.declared.entry.Next.TheVariants.{Settled, Due, Expired}
 use Rattle.history_core.specs.declared.entry.Cause.{Cause}
 use Rattle.history_core.specs.declared.entry.Cause.TheVariants as cause
-use Rattle.history_core.specs.History.{messages, has_id, has_stopped, last_moment, unspecified}
+use Rattle.history_core.specs.History.{messages, has_id, has_stopped, last_moment}
+use Rattle.policy_core.specs.Limits.{unspecified}
 use Rattle.history_core.specs.Fate.{pending}
 use Rattle.history_core.specs.Connection.{connections, open_anywhere, IsLiveFor, busy_with}
 use Rattle.history_core.specs.Candidates.{promotable, next_to_promote}
@@ -28,10 +29,10 @@ Fits (outcome.Permanent r) Settled = ⊤
 Fits (outcome.Permanent r) (Due moment) = ⊥
 Fits (outcome.Permanent r) Expired = ⊥
 Fits (outcome.Transient r) Settled = ⊥
-Fits (outcome.Transient r) (Due moment) = moment ≤ LAST_MOMENT
+Fits (outcome.Transient r) (Due moment) = moment ≤ latest_moment
 Fits (outcome.Transient r) Expired = ⊤
 Fits (outcome.Lost why) Settled = ⊥
-Fits (outcome.Lost why) (Due moment) = moment ≤ LAST_MOMENT
+Fits (outcome.Lost why) (Due moment) = moment ≤ latest_moment
 Fits (outcome.Lost why) Expired = ⊤
 
 abbrev pub IsProperEvent : Event → Type 0
@@ -44,7 +45,7 @@ IsProperEvent (Closed conn why) = ⊤
 IsProperEvent Stopped = ⊤
 
 pub record IsProperEntry (e : Entry) : Type 0 where
-  pub moment : e.at ≤ LAST_MOMENT
+  pub moment : e.at ≤ latest_moment
   pub event : IsProperEvent e.what
 
 -- what an ended attempt may be followed by: so far only a delivery comes

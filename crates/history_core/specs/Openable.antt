@@ -4,7 +4,7 @@ use Rattle.queue_name.specs.declared.message.Message.{Message}
 use Rattle.history_core.specs.declared.entry.Entry.{Entry}
 use Rattle.history_core.specs.declared.entry.Event.{Event}
 use Rattle.history_core.specs.declared.entry.Event.TheVariants.{Accepted, Promoted, Opened, Begun, Ended, Closed, Stopped}
-use Rattle.history_core.specs.declared.entry.TheConstants.{CONNECTION_LIMIT, DELIVERIES_PER_CONNECTION}
+use Rattle.policy_core.specs.Limits.{default_connection_limit, default_max_deliveries}
 use Rattle.history_core.specs.History.{messages, path_of}
 use Rattle.history_core.specs.Connection.{Connection, connections, open_connections, used, ready}
 
@@ -28,7 +28,7 @@ paths h = distinct (flat_map (λ e. path_in (messages h) e.what) h)
 
 -- fewer open connections than the limit, and a ready message
 abbrev pub is_openable : List Entry → List ℕ → Bool
-is_openable h path = nat_lt (length (open_connections h path)) CONNECTION_LIMIT && nat_lt 0 (length (ready h path))
+is_openable h path = nat_lt (length (open_connections h path)) default_connection_limit && nat_lt 0 (length (ready h path))
 
 -- one more than the moment of the path's last Opened, 0 where it was never opened
 abbrev pub opened_rank : List Entry → List ℕ → ℕ
@@ -64,8 +64,8 @@ first_ready (id ∷ ids) = work id
 
 abbrev pub verdict_on : List Entry → Connection → Verdict
 verdict_on h c =
-    if nat_le DELIVERIES_PER_CONNECTION (used h c.number) then spent
-    else (if nat_lt CONNECTION_LIMIT (length (open_connections h c.path)) then shed
+    if nat_le default_max_deliveries (used h c.number) then spent
+    else (if nat_lt default_connection_limit (length (open_connections h c.path)) then shed
     else first_ready (ready h c.path))
 
 abbrev pub verdict_at : List Entry → Option Connection → Option Verdict

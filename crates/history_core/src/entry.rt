@@ -3,15 +3,6 @@ use kumo_base::Text;
 use queue_name::Message;
 use smtp_reply::Outcome;
 
-/// The most open connections of a path, where nothing else is set (KumoMTA, `connection_limit`).
-pub const CONNECTION_LIMIT: u32 = 32;
-
-/// The most attempts on one connection, where nothing else is set (KumoMTA, `max_deliveries_per_connection`).
-pub const DELIVERIES_PER_CONNECTION: u32 = 1024;
-
-/// The most ready messages of a path, where nothing else is set (KumoMTA, `max_ready`).
-pub const READY_LIMIT: u32 = 1024;
-
 /// An event, when it was and by which pass.
 #[derive(Drop)]
 pub struct Entry {

@@ -8,7 +8,5 @@ mod entry;
 mod history;
 pub mod laws;
 
-pub use entry::{
-    CONNECTION_LIMIT, Cause, DELIVERIES_PER_CONNECTION, Entry, Event, Next, READY_LIMIT,
-};
+pub use entry::{Cause, Entry, Event, Next};
 pub use history::History;

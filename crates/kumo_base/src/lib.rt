@@ -8,6 +8,7 @@ mod bytes;
 mod duration;
 mod faults;
 mod items;
+pub mod laws;
 mod lines;
 mod moment;
 mod room;

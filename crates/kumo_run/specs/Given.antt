@@ -2,7 +2,7 @@
 use Rattle.std.specs.Prelude.{◌≡◌, ℕ, ◌<◌, nat_lt, List, length, if◌then◌else◌}
 use Rattle.queue_name.specs.declared.message.Message.{Message}
 use Rattle.mail_input.specs.Inputs.{Mail, messages, mail_of}
-use Rattle.kumo_outside.specs.declared.text_reader.TheConstants.{TEXT_LIMIT}
+use Rattle.kumo_outside.specs.Limits.{text_limit}
 
 -- it has more bytes than are read, or it gives what the definition of a mail text says
 pub data Given : Type 0 where
@@ -10,7 +10,7 @@ pub data Given : Type 0 where
   mail_gives : Mail → Given
 
 unfoldable pub given_by : List ℕ → Given
-given_by text = if nat_lt TEXT_LIMIT (length text) then too_long else mail_gives (mail_of text)
+given_by text = if nat_lt text_limit (length text) then too_long else mail_gives (mail_of text)
 
 -- more messages than are sent so far
 pub record IsMany (found : Given) : Type 0 where

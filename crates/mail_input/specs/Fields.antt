@@ -9,8 +9,8 @@ use Rattle.uuid.specs.Text.{parsed}
 use Rattle.queue_name.specs.Address.{is_address, domain_of}
 use Rattle.queue_name.specs.QueueName.{Name, is_name}
 use Rattle.queue_name.specs.declared.message.Message.{Message}
-use Rattle.kumo_base.specs.declared.moment.TheConstants.{LAST_MOMENT}
-use Rattle.queue_name.specs.declared.message.TheConstants.{BODY_LIMIT}
+use Rattle.kumo_base.specs.Limits.{latest_moment}
+use Rattle.queue_name.specs.Limits.{body_limit}
 use Rattle.mail_input.specs.declared.MailWhy.{MailWhy}
 use Rattle.mail_input.specs.declared.MailWhy.TheVariants.{NotJson, Missing, BadId, BadMoment, BadAddress, BadName, TooLong}
 use Rattle.mail_input.specs.declared.fault.LineFault.{LineFault}
@@ -50,7 +50,7 @@ id_in d = then_read (text_at (codes "id") d) (λ text. required BadId (option_ma
 
 -- a whole number up to the last moment
 abbrev pub moment_of : Data → Option ℕ
-moment_of d = option_and_then (λ n. if nat_le n LAST_MOMENT then Some n else None) (option_and_then as_u64 (as_number d))
+moment_of d = option_and_then (λ n. if nat_le n latest_moment then Some n else None) (option_and_then as_u64 (as_number d))
 
 abbrev pub created_in : Data → Result ℕ MailWhy
 created_in d = then_read (required Missing (get (codes "created") d)) (λ value. required BadMoment (moment_of value))
@@ -80,7 +80,7 @@ name_in d recipient =
     if_name (record { campaign = campaign; tenant = tenant; domain = domain_of recipient })))
 
 abbrev pub body_in : Data → Result (List ℕ) MailWhy
-body_in d = then_read (text_at (codes "body") d) (λ text. kept_if (nat_le (length text) BODY_LIMIT) TooLong text)
+body_in d = then_read (text_at (codes "body") d) (λ text. kept_if (nat_le (length text) body_limit) TooLong text)
 
 -- the message that an object gives
 unfoldable pub message_of : Data → Result Message MailWhy

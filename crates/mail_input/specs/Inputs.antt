@@ -3,7 +3,7 @@ use Rattle.std.specs.Prelude.{◌≡◌, ℕ, ◌==◌, nat_le, List, Bool, [], 
 use Rattle.std.specs.List.{list_any}
 use Rattle.kumo_base.specs.Lines.{numbered_lines}
 use Rattle.queue_name.specs.declared.message.Message.{Message}
-use Rattle.mail_input.specs.declared.TheConstants.{MESSAGE_LIMIT}
+use Rattle.mail_input.specs.Limits.{message_limit}
 use Rattle.mail_input.specs.declared.MailWhy.{MailWhy}
 use Rattle.mail_input.specs.declared.MailWhy.TheVariants.{TooMany, Duplicate}
 use Rattle.mail_input.specs.declared.MailFault.{MailFault}
@@ -25,7 +25,7 @@ with_message done m = if has_id m.id done then Err Duplicate else Ok (done ++ m 
 -- the messages so far and that of the next line
 unfoldable pub with_line : List Message → List ℕ → Result (List Message) MailWhy
 with_line done line =
-    if nat_le MESSAGE_LIMIT (length done) then Err TooMany else then_read (line_of line) (with_message done)
+    if nat_le message_limit (length done) then Err TooMany else then_read (line_of line) (with_message done)
 
 -- the refused line, or how it goes on with these messages
 abbrev pub then_on : ℕ → Result (List Message) MailWhy → (List Message → Mail) → Mail

@@ -11,6 +11,7 @@ ghost use Rattle.mail_input.specs.Inputs.{messages, mail_of, IsFaultOf};
 
 mod fault;
 mod fields;
+pub mod laws;
 mod line;
 mod name;
 mod reading;

@@ -2,7 +2,7 @@
 use Rattle.std.specs.Prelude.{ℕ, List, [], ◌∷◌, ◌++◌, Option, None, bytes_eq, find, unwrap_or, option_map, option_and_then, option_to_list}
 use Rattle.std.specs.Option.{option_or}
 use Rattle.queue_name.specs.QueueName.{Name}
-use Rattle.policy_core.specs.declared.settings.TheConstants.{DEFAULT_MAX_AGE, DEFAULT_RETRY_INTERVAL, UNSPECIFIED}
+use Rattle.policy_core.specs.Limits.{default_max_age, default_retry_interval, unspecified}
 use Rattle.policy_core.specs.declared.settings.Layer.{Layer}
 use Rattle.policy_core.specs.declared.settings.Settings.{Settings}
 use Rattle.policy_core.specs.declared.queues.NamedLayer.{NamedLayer}
@@ -22,10 +22,10 @@ value_in layers option default = unwrap_or (last_set layers option) default
 -- what layers come to
 abbrev pub settings_in : List Layer → Settings
 settings_in layers = record {
-  max_age = value_in layers (λ l. l.max_age) DEFAULT_MAX_AGE;
-  retry_interval = value_in layers (λ l. l.retry_interval) DEFAULT_RETRY_INTERVAL;
+  max_age = value_in layers (λ l. l.max_age) default_max_age;
+  retry_interval = value_in layers (λ l. l.retry_interval) default_retry_interval;
   max_retry_interval = last_set layers (λ l. l.max_retry_interval);
-  pool = value_in layers (λ l. l.pool) UNSPECIFIED.now;
+  pool = value_in layers (λ l. l.pool) unspecified;
 }
 
 -- settings with a layer over them

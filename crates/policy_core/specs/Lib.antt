@@ -1,3 +1,4 @@
+pub mod Limits
 pub mod Layers
 pub mod Names
 pub mod PathOptions

@@ -5,7 +5,7 @@ use Rattle.std.specs.Option.{option_or}
 use Rattle.policy_core.specs.Layers.{last_set}
 use Rattle.policy_core.specs.declared.options.Options.{Options}
 use Rattle.policy_core.specs.declared.options.InForce.{InForce}
-use Rattle.policy_core.specs.declared.options.TheConstants.{DEFAULT_CONNECTION_LIMIT, DEFAULT_MAX_DELIVERIES, DEFAULT_MAX_READY, DEFAULT_FAILURES_BEFORE_DELAY}
+use Rattle.policy_core.specs.Limits.{default_connection_limit, default_max_deliveries, default_max_ready, default_failures_before_delay}
 
 abbrev pub no_options : Options
 no_options = record {
@@ -42,12 +42,12 @@ options_in layers = record {
 -- what is in force where no rule sets an option: the value of the layers, or the default
 abbrev pub in_force_of : Options → InForce
 in_force_of options = record {
-  connection_limit = unwrap_or options.connection_limit DEFAULT_CONNECTION_LIMIT;
+  connection_limit = unwrap_or options.connection_limit default_connection_limit;
   message_rate = options.max_message_rate;
   message_key = 0;
   connection_rate = options.max_connection_rate;
   connection_key = 0;
-  deliveries = unwrap_or options.max_deliveries_per_connection DEFAULT_MAX_DELIVERIES;
-  ready_limit = unwrap_or options.max_ready DEFAULT_MAX_READY;
-  failures_before_delay = unwrap_or options.failures_before_delay DEFAULT_FAILURES_BEFORE_DELAY;
+  deliveries = unwrap_or options.max_deliveries_per_connection default_max_deliveries;
+  ready_limit = unwrap_or options.max_ready default_max_ready;
+  failures_before_delay = unwrap_or options.failures_before_delay default_failures_before_delay;
 }

@@ -1,5 +1,5 @@
 -- What the shaping tables of a path come to. A path is a source and a site.
-use Rattle.std.specs.Prelude.{ℕ, ◌-◌, List, [], ◌∷◌, ◌++◌, length, drop, Bool, false, ◌||◌, if◌then◌else◌, map, find, bytes_eq, option_map, option_to_list}
+use Rattle.std.specs.Prelude.{ℕ, ◌-◌, List, [], ◌∷◌, ◌++◌, length, drop, Bool, false, ◌||◌, if◌then◌else◌, map, find, bytes_eq, option_map, option_to_list, codes}
 use Rattle.std.specs.List.{list_all, list_any, filter, flat_map}
 use Rattle.policy_core.specs.declared.shaping.ShapeTable.{ShapeTable}
 use Rattle.policy_core.specs.declared.shaping.Provider.{Provider}
@@ -64,6 +64,9 @@ merged layers = record {
 unfoldable pub base_of : Policy → Site → List ℕ → PathBase
 base_of policy site source = merged (layers_for (tables_for policy site) source)
 
--- the text of a path
+-- the text of a path: the source, `->` and the name of the site
+abbrev pub path_text : List ℕ → List ℕ → List ℕ
+path_text source site = source ++ codes "->" ++ site
+
 abbrev pub path_of : List ℕ → Site → List ℕ
-path_of source site = source ++ (45 ∷ 62 ∷ site.name)
+path_of source site = path_text source site.name

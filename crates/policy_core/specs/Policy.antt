@@ -2,8 +2,8 @@
 use Rattle.std.specs.Prelude.{◌≡◌, ℕ, nat_le, List, [], ◌∷◌, ◌++◌, Bool, false, not, ◌&&◌, ◌||◌, Option, Some, None, is_some, if◌then◌else◌, map, bytes_eq, codes, IsTrue, ⊤}
 use Rattle.std.specs.List.{list_all, list_any, filter, flat_map}
 use Rattle.queue_name.specs.QueueName.{Name}
-use Rattle.kumo_base.specs.declared.moment.TheConstants.{LAST_MOMENT}
-use Rattle.policy_core.specs.declared.settings.TheConstants.{UNSPECIFIED}
+use Rattle.kumo_base.specs.Limits.{latest_moment}
+use Rattle.policy_core.specs.Limits.{unspecified}
 use Rattle.policy_core.specs.declared.settings.Layer.{Layer}
 use Rattle.policy_core.specs.declared.queues.NamedLayer.{NamedLayer}
 use Rattle.policy_core.specs.declared.queues.TenantQueues.{TenantQueues}
@@ -23,7 +23,7 @@ use Rattle.policy_core.specs.Mx.{comes_before, are_hosts_named}
 -- the moments at which a run stops, the last of them the horizon: there is one, they do not fall, and none passes the last
 -- moment
 abbrev pub climb_from : ℕ → List ℕ → Bool
-climb_from stop [] = nat_le stop LAST_MOMENT
+climb_from stop [] = nat_le stop latest_moment
 climb_from stop (next ∷ more) = nat_le stop next && climb_from next more
 
 unfoldable pub are_stops : List ℕ → Bool
@@ -45,7 +45,7 @@ are_sources_named sources = list_all (λ source. is_source_name source.name) sou
 
 -- queues whose layers name no pool have one as well
 unfoldable pub has_base_pool : Sources → Queues → Bool
-has_base_pool sources queues = is_some queues.base.pool || has_pool sources UNSPECIFIED.now
+has_base_pool sources queues = is_some queues.base.pool || has_pool sources unspecified
 
 -- every queue's pool is there
 unfoldable pub IsServed : Sources → Queues → Type 0

@@ -9,6 +9,11 @@ ghost use Rattle.policy_core.specs.Policy.{Policy};
 ghost use Rattle.policy_core.specs.Site.{site_of, domains_of, shape_of, rollup_of};
 ghost use Rattle.policy_core.specs.declared.settings.Layer.{Layer};
 ghost use Rattle.policy_core.specs.declared.options.Options.{Options};
+ghost use Rattle.policy_core.specs.Limits.{policy_name_limit, default_connection_limit, default_max_deliveries, default_max_ready, default_failures_before_delay, greatest_option, greatest_count, default_max_age, default_retry_interval, unspecified, localhost};
+ghost use Rattle.policy_core.specs.declared.names.TheConstants.{POLICY_NAME_LIMIT};
+ghost use Rattle.policy_core.specs.declared.options.TheConstants.{DEFAULT_CONNECTION_LIMIT, DEFAULT_MAX_DELIVERIES, DEFAULT_MAX_READY, DEFAULT_FAILURES_BEFORE_DELAY, GREATEST_OPTION};
+ghost use Rattle.policy_core.specs.declared.rules.TheConstants.{GREATEST_COUNT};
+ghost use Rattle.policy_core.specs.declared.settings.TheConstants.{DEFAULT_MAX_AGE, DEFAULT_RETRY_INTERVAL, UNSPECIFIED, DEFAULT_EHLO};
 
 /// What a last layer sets counts, and what it does not set is as the layers below it have it.
 pub fn last_layer_lies_over_others()
@@ -31,4 +36,19 @@ pub fn a_domain_is_of_its_site()
 /// An entrant has as many turns in a rotation as its weight says.
 pub fn turns_are_as_many_as_weight()
     ensures { (weights : List ℕ) (k : ℕ) → k < length weights → count_by (λ place. place.entrant == k) (rotation_of weights) ≡ slice_index weights k }
+{}
+
+/// The limits that the code has are those that the definitions state.
+pub fn limits_are_as_stated()
+    ensures policy_name_is { POLICY_NAME_LIMIT ≡ policy_name_limit }
+    ensures connection_is { DEFAULT_CONNECTION_LIMIT ≡ default_connection_limit }
+    ensures max_deliveries_is { DEFAULT_MAX_DELIVERIES ≡ default_max_deliveries }
+    ensures max_ready_is { DEFAULT_MAX_READY ≡ default_max_ready }
+    ensures failures_before_delay_is { DEFAULT_FAILURES_BEFORE_DELAY ≡ default_failures_before_delay }
+    ensures greatest_option_is { GREATEST_OPTION ≡ greatest_option }
+    ensures greatest_count_is { GREATEST_COUNT ≡ greatest_count }
+    ensures max_age_is { DEFAULT_MAX_AGE ≡ default_max_age }
+    ensures retry_interval_is { DEFAULT_RETRY_INTERVAL ≡ default_retry_interval }
+    ensures unspecified_is { UNSPECIFIED.now ≡ unspecified }
+    ensures localhost_is { DEFAULT_EHLO.now ≡ localhost }
 {}

@@ -36,7 +36,9 @@ pub use orders::Order;
 pub use policy::Policy;
 pub use queues::{DomainQueues, NamedLayer, Queues, TenantQueues};
 pub use rules::{Action, GREATEST_COUNT, Rule, Setting, Trigger};
-pub use settings::{DEFAULT_MAX_AGE, DEFAULT_RETRY_INTERVAL, Layer, Settings, UNSPECIFIED};
+pub use settings::{
+    DEFAULT_EHLO, DEFAULT_MAX_AGE, DEFAULT_RETRY_INTERVAL, Layer, Settings, UNSPECIFIED,
+};
 pub use shaping::{DomainShape, Match, Provider, ShapeTable, Shaping, SourceTable};
 pub use site::{PathBase, Site};
 pub use sources::{Entrant, Pool, Source, Sources};

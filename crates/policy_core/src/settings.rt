@@ -15,6 +15,9 @@ pub const DEFAULT_RETRY_INTERVAL: u64 = 1_200_000;
 /// The name of the source and of the pool that are always there. A queue whose layers name no pool has this one.
 pub const UNSPECIFIED: &str = "unspecified";
 
+/// What a source says in EHLO where its table says nothing else.
+pub const DEFAULT_EHLO: &str = "localhost";
+
 /// The settings in force for a queue.
 #[derive(Drop)]
 pub struct Settings {

@@ -2,7 +2,7 @@
 -- are read one after another, and each is read whole before the next: sources, queues, shaping, mail exchangers.
 use Rattle.std.specs.Prelude.{◌≡◌, ◌⊎◌, ℕ, List, [], ◌∷◌, ◌++◌, Option, Some, None, Err, codes, ⊤}
 use Rattle.kumo_base.specs.Causes.{Rose}
-use Rattle.kumo_base.specs.declared.moment.TheConstants.{LAST_MOMENT}
+use Rattle.kumo_base.specs.Limits.{latest_moment}
 use Rattle.policy_core.specs.Policy.{Policy, unknown_pool}
 use Rattle.policy_core.specs.declared.fault.Ignored.{Ignored}
 use Rattle.policy_core.specs.declared.fault.PolicyFile.TheVariants as file
@@ -24,7 +24,7 @@ pub record IsPolicyOf (sources : SourcesFile) (queues : QueuesFile) (shaping : S
   pub queues_are : policy.queues ≡ queues.queues
   pub shaping_is : policy.shaping ≡ shaping.shaping
   pub mx_joins : Joins policy.mx rows
-  pub stops_are : policy.stops ≡ LAST_MOMENT ∷ []
+  pub stops_are : policy.stops ≡ latest_moment ∷ []
   pub pools_are_known : unknown_pool policy.sources policy.queues ≡ None
 
 -- texts that tell give a policy and keys without effect; of each stage: where the texts before it have given this, and keys

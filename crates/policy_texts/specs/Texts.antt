@@ -1,6 +1,6 @@
 -- What each policy text comes to: it is too long, it is refused at a place, or it gives what its definition says.
 use Rattle.std.specs.Prelude.{◌≡◌, ℕ, nat_lt, List, [], length, Option, Some, None, Result, Ok, Err, IfSome, if◌then◌else◌}
-use Rattle.kumo_outside.specs.declared.text_reader.TheConstants.{TEXT_LIMIT}
+use Rattle.kumo_outside.specs.Limits.{text_limit}
 use Rattle.policy_core.specs.declared.fault.PolicyFile.TheVariants as file
 use Rattle.policy_core.specs.declared.fault.PolicyFault.{PolicyFault}
 use Rattle.policy_core.specs.declared.mx.MxRow.{MxRow}
@@ -21,7 +21,7 @@ unless_refused report (Ok a) = Ok a
 unless_refused report (Err f) = Err (refused (report f))
 
 unfoldable pub read_by : {A F : Type 0} → (F → PolicyFault) → (List ℕ → Result A F) → List ℕ → Result A Stop
-read_by report read text = if nat_lt TEXT_LIMIT (length text) then Err too_long else unless_refused report (read text)
+read_by report read text = if nat_lt text_limit (length text) then Err too_long else unless_refused report (read text)
 
 abbrev pub sources_given : List ℕ → Result SourcesFile Stop
 sources_given = read_by (reported file.Sources) sources_file

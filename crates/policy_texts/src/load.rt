@@ -1,9 +1,9 @@
 //! Reading policy texts and putting them together.
 ghost use Rattle.std.specs.Prelude.{◌≡◌, ◌≤◌, ◌∷◌, [], None, IsTrue, IfOk, IfErr};
-ghost use Rattle.kumo_base.specs.declared.moment.TheConstants.{LAST_MOMENT};
+ghost use Rattle.kumo_base.specs.Limits.{latest_moment};
 ghost use Rattle.policy_core.specs.Policy.{has_pool, are_entrants_sources, are_sources_named, unknown_pool};
 ghost use Rattle.policy_core.specs.Mx.{are_hosts_named};
-ghost use Rattle.policy_core.specs.declared.settings.TheConstants.{UNSPECIFIED};
+ghost use Rattle.policy_core.specs.Limits.{unspecified};
 ghost use Rattle.command_words.specs.Told.{seen_names};
 ghost use Rattle.policy_texts.specs.Policies.{Loads, Stops, StopsAtPools, HasCauseIn};
 ghost use Rattle.policy_texts.specs.LoadCauses.{no_counts};
@@ -104,11 +104,11 @@ pub fn load_policy<T: Texts, S: Search>(
     names: &PolicyNames<'_>,
     search: &mut S,
 ) -> Result<PolicyTexts, LoadFault>
-    ensures ok { IfOk result (λ loaded. Loads (T.told texts.old) (seen_names names.now) loaded.policy loaded.ignored.items) }
-    ensures err { IfErr result (λ fault. HasCauseIn (Stops (T.told texts.old) (seen_names names.now)) (record { texts_before = T.faults texts.old; texts_after = T.faults texts.new; search_before = S.faults search.old; search_after = S.faults search.new }) fault) }
-    ensures told { T.told texts.new ≡ T.told texts.old }
-    ensures texts { T.faults texts.old ≤ T.faults texts.new }
-    ensures search { S.faults search.old ≤ S.faults search.new }
+    ensures ok { IfOk result (λ loaded. Loads (T.seen texts.old).told (seen_names names.now) loaded.policy loaded.ignored.items) }
+    ensures err { IfErr result (λ fault. HasCauseIn (Stops (T.seen texts.old).told (seen_names names.now)) (record { texts_before = (T.seen texts.old).faults; texts_after = (T.seen texts.new).faults; search_before = (S.seen search.old).faults; search_after = (S.seen search.new).faults }) fault) }
+    ensures told { (T.seen texts.new).told ≡ (T.seen texts.old).told }
+    ensures texts { (T.seen texts.old).faults ≤ (T.seen texts.new).faults }
+    ensures search { (S.seen search.old).faults ≤ (S.seen search.new).faults }
 {
     let (sources, mut ignored) = take_sources(alloc, texts, names.sources)?;
     let (queues, mut of_queues) = take_queues(alloc, texts, names.queues)?;
@@ -128,11 +128,11 @@ fn assembled(
     shaping: Shaping,
     mx: MxTable,
 ) -> Result<Policy, LoadFault>
-    requires base { IsTrue (has_pool sources UNSPECIFIED.now) }
+    requires base { IsTrue (has_pool sources unspecified) }
     requires entrants { IsTrue (are_entrants_sources sources) }
     requires source_names { IsTrue (are_sources_named sources) }
     requires hosts { IsTrue (are_hosts_named mx) }
-    ensures ok { IfOk result (λ policy. policy ≡ record { sources = sources; queues = queues; shaping = shaping; mx = mx; stops = LAST_MOMENT ∷ [] }) }
+    ensures ok { IfOk result (λ policy. policy ≡ record { sources = sources; queues = queues; shaping = shaping; mx = mx; stops = latest_moment ∷ [] }) }
     ensures known { IfOk result (λ policy. unknown_pool sources queues ≡ None) }
     ensures err { IfErr result (λ fault. HasCauseIn (StopsAtPools (record { sources = sources; ignored = [] }) (record { queues = queues; ignored = [] })) no_counts fault) }
 {

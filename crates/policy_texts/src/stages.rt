@@ -4,7 +4,7 @@ ghost use Rattle.kumo_outside.specs.Reading.{IsReadUpTo};
 ghost use Rattle.kumo_outside.specs.declared.text_reader.TheConstants.{TEXT_LIMIT};
 ghost use Rattle.policy_core.specs.Policy.{has_pool, are_entrants_sources, are_sources_named};
 ghost use Rattle.policy_core.specs.Mx.{are_hosts_named};
-ghost use Rattle.policy_core.specs.declared.settings.TheConstants.{UNSPECIFIED};
+ghost use Rattle.policy_core.specs.Limits.{unspecified};
 ghost use Rattle.policy_core.specs.declared.mx.MxRow.{MxRow};
 ghost use Rattle.mx_table.specs.MxText.{Joins};
 ghost use Rattle.policy_texts.specs.Texts.{sources_given, queues_given, shaping_given, mx_given, told_by, Comes, Gives};
@@ -27,13 +27,13 @@ pub(crate) fn take_sources<T: Texts>(
     texts: &mut T,
     name: Option<&str>,
 ) -> Result<(Sources, Vec<Ignored>), LoadFault>
-    ensures ok { IfOk result (λ r. Comes sources_given (told_by (T.told texts.old) (option_map (λ s. s.now) name.entry)) (Ok (record { sources = r.0; ignored = r.1.items }))) }
-    ensures base { IfOk result (λ r. IsTrue (has_pool r.0 UNSPECIFIED.now)) }
+    ensures ok { IfOk result (λ r. Comes sources_given (told_by (T.seen texts.old).told (option_map (λ s. s.now) name.entry)) (Ok (record { sources = r.0; ignored = r.1.items }))) }
+    ensures base { IfOk result (λ r. IsTrue (has_pool r.0 unspecified)) }
     ensures entrants { IfOk result (λ r. IsTrue (are_entrants_sources r.0)) }
     ensures source_names { IfOk result (λ r. IsTrue (are_sources_named r.0)) }
-    ensures err { IfErr result (λ fault. HasCauseIn (λ stop. Comes sources_given (told_by (T.told texts.old) (option_map (λ s. s.now) name.entry)) (Err stop)) (texts_counts (T.faults texts.old) (T.faults texts.new)) fault) }
-    ensures told { T.told texts.new ≡ T.told texts.old }
-    ensures later { T.faults texts.old ≤ T.faults texts.new }
+    ensures err { IfErr result (λ fault. HasCauseIn (λ stop. Comes sources_given (told_by (T.seen texts.old).told (option_map (λ s. s.now) name.entry)) (Err stop)) (texts_counts (T.seen texts.old).faults (T.seen texts.new).faults) fault) }
+    ensures told { (T.seen texts.new).told ≡ (T.seen texts.old).told }
+    ensures later { (T.seen texts.old).faults ≤ (T.seen texts.new).faults }
 {
     let text = read_named(alloc, texts, name)?;
     sources_in(alloc, text.as_slice())
@@ -45,10 +45,10 @@ pub(crate) fn take_queues<T: Texts>(
     texts: &mut T,
     name: Option<&str>,
 ) -> Result<(Queues, Vec<Ignored>), LoadFault>
-    ensures ok { IfOk result (λ r. Comes queues_given (told_by (T.told texts.old) (option_map (λ s. s.now) name.entry)) (Ok (record { queues = r.0; ignored = r.1.items }))) }
-    ensures err { IfErr result (λ fault. HasCauseIn (λ stop. Comes queues_given (told_by (T.told texts.old) (option_map (λ s. s.now) name.entry)) (Err stop)) (texts_counts (T.faults texts.old) (T.faults texts.new)) fault) }
-    ensures told { T.told texts.new ≡ T.told texts.old }
-    ensures later { T.faults texts.old ≤ T.faults texts.new }
+    ensures ok { IfOk result (λ r. Comes queues_given (told_by (T.seen texts.old).told (option_map (λ s. s.now) name.entry)) (Ok (record { queues = r.0; ignored = r.1.items }))) }
+    ensures err { IfErr result (λ fault. HasCauseIn (λ stop. Comes queues_given (told_by (T.seen texts.old).told (option_map (λ s. s.now) name.entry)) (Err stop)) (texts_counts (T.seen texts.old).faults (T.seen texts.new).faults) fault) }
+    ensures told { (T.seen texts.new).told ≡ (T.seen texts.old).told }
+    ensures later { (T.seen texts.old).faults ≤ (T.seen texts.new).faults }
 {
     let text = read_named(alloc, texts, name)?;
     queues_in(alloc, text.as_slice())
@@ -61,11 +61,11 @@ pub(crate) fn take_shaping<T: Texts, S: Search>(
     name: Option<&str>,
     search: &mut S,
 ) -> Result<(Shaping, Vec<Ignored>), LoadFault>
-    ensures ok { IfOk result (λ r. Comes shaping_given (told_by (T.told texts.old) (option_map (λ s. s.now) name.entry)) (Ok (record { shaping = r.0; ignored = r.1.items }))) }
-    ensures err { IfErr result (λ fault. HasCauseIn (λ stop. Comes shaping_given (told_by (T.told texts.old) (option_map (λ s. s.now) name.entry)) (Err stop)) (record { texts_before = T.faults texts.old; texts_after = T.faults texts.new; search_before = S.faults search.old; search_after = S.faults search.new }) fault) }
-    ensures told { T.told texts.new ≡ T.told texts.old }
-    ensures later { T.faults texts.old ≤ T.faults texts.new }
-    ensures searched { S.faults search.old ≤ S.faults search.new }
+    ensures ok { IfOk result (λ r. Comes shaping_given (told_by (T.seen texts.old).told (option_map (λ s. s.now) name.entry)) (Ok (record { shaping = r.0; ignored = r.1.items }))) }
+    ensures err { IfErr result (λ fault. HasCauseIn (λ stop. Comes shaping_given (told_by (T.seen texts.old).told (option_map (λ s. s.now) name.entry)) (Err stop)) (record { texts_before = (T.seen texts.old).faults; texts_after = (T.seen texts.new).faults; search_before = (S.seen search.old).faults; search_after = (S.seen search.new).faults }) fault) }
+    ensures told { (T.seen texts.new).told ≡ (T.seen texts.old).told }
+    ensures later { (T.seen texts.old).faults ≤ (T.seen texts.new).faults }
+    ensures searched { (S.seen search.old).faults ≤ (S.seen search.new).faults }
 {
     let text = read_named(alloc, texts, name)?;
     shaping_in(alloc, text.as_slice(), search)
@@ -77,11 +77,11 @@ pub(crate) fn take_mx<T: Texts>(
     texts: &mut T,
     name: Option<&str>,
 ) -> Result<MxTable, LoadFault>
-    ensures ok { IfOk result (λ table. Gives mx_given (told_by (T.told texts.old) (option_map (λ s. s.now) name.entry)) (λ rows. Joins table rows)) }
+    ensures ok { IfOk result (λ table. Gives mx_given (told_by (T.seen texts.old).told (option_map (λ s. s.now) name.entry)) (λ rows. Joins table rows)) }
     ensures hosts { IfOk result (λ table. IsTrue (are_hosts_named table)) }
-    ensures err { IfErr result (λ fault. HasCauseIn (λ stop. Comes mx_given (told_by (T.told texts.old) (option_map (λ s. s.now) name.entry)) (Err stop)) (texts_counts (T.faults texts.old) (T.faults texts.new)) fault) }
-    ensures told { T.told texts.new ≡ T.told texts.old }
-    ensures later { T.faults texts.old ≤ T.faults texts.new }
+    ensures err { IfErr result (λ fault. HasCauseIn (λ stop. Comes mx_given (told_by (T.seen texts.old).told (option_map (λ s. s.now) name.entry)) (Err stop)) (texts_counts (T.seen texts.old).faults (T.seen texts.new).faults) fault) }
+    ensures told { (T.seen texts.new).told ≡ (T.seen texts.old).told }
+    ensures later { (T.seen texts.old).faults ≤ (T.seen texts.new).faults }
 {
     let text = read_named(alloc, texts, name)?;
     mx_in(alloc, text.as_slice())
@@ -93,10 +93,10 @@ fn read_named<T: Texts>(
     texts: &mut T,
     name: Option<&str>,
 ) -> Result<Bytes, LoadFault>
-    ensures ok { IfSome (told_by (T.told texts.old) (option_map (λ s. s.now) name.entry)) (λ text. IfOk result (λ read. IsReadUpTo TEXT_LIMIT text read)) }
-    ensures err { IfErr result (λ fault. HasCauseIn (λ stop. ⊥) (texts_counts (T.faults texts.old) (T.faults texts.new)) fault) }
-    ensures told { T.told texts.new ≡ T.told texts.old }
-    ensures later { T.faults texts.old ≤ T.faults texts.new }
+    ensures ok { IfSome (told_by (T.seen texts.old).told (option_map (λ s. s.now) name.entry)) (λ text. IfOk result (λ read. IsReadUpTo TEXT_LIMIT text read)) }
+    ensures err { IfErr result (λ fault. HasCauseIn (λ stop. ⊥) (texts_counts (T.seen texts.old).faults (T.seen texts.new).faults) fault) }
+    ensures told { (T.seen texts.new).told ≡ (T.seen texts.old).told }
+    ensures later { (T.seen texts.old).faults ≤ (T.seen texts.new).faults }
 {
     let Some(name) = name else {
         return Ok(Bytes::new(alloc));
@@ -111,7 +111,7 @@ fn read_named<T: Texts>(
 /// What bytes give as a sources file, where they are not too many.
 fn sources_in(alloc: Global, text: &[u8]) -> Result<(Sources, Vec<Ignored>), LoadFault>
     ensures ok { IfOk result (λ r. sources_given text.now ≡ Ok (record { sources = r.0; ignored = r.1.items })) }
-    ensures base { IfOk result (λ r. IsTrue (has_pool r.0 UNSPECIFIED.now)) }
+    ensures base { IfOk result (λ r. IsTrue (has_pool r.0 unspecified)) }
     ensures entrants { IfOk result (λ r. IsTrue (are_entrants_sources r.0)) }
     ensures source_names { IfOk result (λ r. IsTrue (are_sources_named r.0)) }
     ensures err { IfErr result (λ fault. HasCauseIn (λ stop. sources_given text.now ≡ Err stop) no_counts fault) }
@@ -140,8 +140,8 @@ fn shaping_in<S: Search>(
     search: &mut S,
 ) -> Result<(Shaping, Vec<Ignored>), LoadFault>
     ensures ok { IfOk result (λ r. shaping_given text.now ≡ Ok (record { shaping = r.0; ignored = r.1.items })) }
-    ensures err { IfErr result (λ fault. HasCauseIn (λ stop. shaping_given text.now ≡ Err stop) (search_counts (S.faults search.old) (S.faults search.new)) fault) }
-    ensures searched { S.faults search.old ≤ S.faults search.new }
+    ensures err { IfErr result (λ fault. HasCauseIn (λ stop. shaping_given text.now ≡ Err stop) (search_counts (S.seen search.old).faults (S.seen search.new).faults) fault) }
+    ensures searched { (S.seen search.old).faults ≤ (S.seen search.new).faults }
 {
     if text.len() > TEXT_LIMIT {
         return Err(LoadFault::Limit);

@@ -10,7 +10,7 @@ use Rattle.policy_core.specs.declared.fault.Ignored.{Ignored}
 use Rattle.policy_core.specs.declared.fault.Why.{Why}
 use Rattle.policy_core.specs.declared.fault.Why.TheVariants as why
 use Rattle.policy_toml.specs.declared.fault.Fault.{Fault}
-use Rattle.policy_toml.specs.declared.fault.TheConstants.{WHOLE_TABLE}
+use Rattle.policy_toml.specs.Limits.{whole_table}
 
 -- a table within a table, which is the empty text at the top level
 abbrev pub joined : List ℕ → List ℕ → List ℕ
@@ -25,7 +25,7 @@ fault table key why = fault_in table 0 key 0 why
 
 -- the key of a fault of a table as a whole, and the name of the top level
 abbrev pub whole_table : List ℕ
-whole_table = WHOLE_TABLE.now
+whole_table = whole_table
 
 -- the order of the refusals that one key may meet
 -- it serves all files: a shaping file lists BadDuration behind BadAction, but at its `duration` no other word but BadType stands

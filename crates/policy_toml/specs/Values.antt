@@ -5,7 +5,7 @@ use Rattle.toml.specs.Data.{Data, string, integer, Members}
 use Rattle.toml.specs.Parse.{parse_document}
 use Rattle.kumo_base.specs.Duration.{duration_in}
 use Rattle.kumo_base.specs.declared.duration.DurationFault.{DurationFault}
-use Rattle.kumo_base.specs.declared.duration.TheConstants.{LONGEST_DURATION}
+use Rattle.kumo_base.specs.Duration.{longest}
 use Rattle.policy_core.specs.declared.fault.Why.{Why}
 use Rattle.policy_core.specs.declared.fault.Why.TheVariants.{BadType, BadDuration}
 
@@ -28,7 +28,7 @@ spelled_duration (Err fault) = Err BadDuration
 
 -- of one in whole seconds
 abbrev pub seconds : ℤ → Result ℕ Why
-seconds (pos n) = if nat_le (n * 1000) LONGEST_DURATION then Ok (n * 1000) else Err BadDuration
+seconds (pos n) = if nat_le (n * 1000) longest then Ok (n * 1000) else Err BadDuration
 seconds (negsuc n) = Err BadDuration
 
 -- the milliseconds of a duration: a text with units, or a whole number of seconds

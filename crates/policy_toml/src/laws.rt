@@ -3,6 +3,8 @@ ghost use Rattle.std.specs.Prelude.{◌≡◌, ℕ, List, Some, None, false, sli
 ghost use Rattle.std.specs.Ordering.{is_lt};
 ghost use Rattle.policy_toml.specs.declared.fault.Fault.{Fault};
 ghost use Rattle.policy_toml.specs.Places.{first_of, fault_cmp};
+ghost use Rattle.policy_toml.specs.Limits.{whole_table};
+ghost use Rattle.policy_toml.specs.declared.fault.TheConstants.{WHOLE_TABLE};
 
 /// The first of faults is one of them.
 pub fn first_is_one_of_them()
@@ -12,4 +14,9 @@ pub fn first_is_one_of_them()
 /// None of them comes before it.
 pub fn none_comes_before_the_first()
     ensures { (faults : List Fault) (first other : Fault) (k : ℕ) → first_of None faults ≡ Some first → slice_get faults k ≡ Some other → is_lt (fault_cmp other first) ≡ false }
+{}
+
+/// The limits that the code has are those that the definitions state.
+pub fn limits_are_as_stated()
+    ensures { WHOLE_TABLE.now ≡ whole_table }
 {}

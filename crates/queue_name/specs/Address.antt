@@ -3,7 +3,7 @@ use Rattle.std.specs.Prelude.{ℕ, ◌==◌, nat_lt, nat_le, List, length, Bool,
 use Rattle.std.specs.List.{list_all, list_any, before_last, after_last}
 use Rattle.std.specs.Str.{str_to_ascii_lowercase}
 use Rattle.queue_name.specs.QueueName.{is_domain}
-use Rattle.queue_name.specs.declared.message.TheConstants.{ADDRESS_LIMIT}
+use Rattle.queue_name.specs.Limits.{address_limit}
 
 -- a visible ASCII byte that is no angle bracket
 abbrev pub is_address_byte : ℕ → Bool
@@ -22,5 +22,5 @@ is_routed_domain domain = is_domain domain && list_all (λ b. not (b == 62) && n
 
 unfoldable pub is_address : List ℕ → Bool
 is_address address =
-    nat_lt 0 (length address) && nat_le (length address) ADDRESS_LIMIT && list_all is_address_byte address
+    nat_lt 0 (length address) && nat_le (length address) address_limit && list_all is_address_byte address
     && list_any is_at address && nat_lt 0 (length (before_last is_at address)) && is_routed_domain (domain_of address)

@@ -1,3 +1,4 @@
+pub mod Limits
 pub mod QueueName
 pub mod Address
 pub mod Message

@@ -3,7 +3,7 @@ use Rattle.std.specs.Prelude.{◌≡◌, ◌==◌, ℕ, nat_lt, nat_le, List, []
 use Rattle.std.specs.List.{list_any, position, before_first, after_first}
 use Rattle.queue_name.specs.Address.{is_at}
 use Rattle.queue_name.specs.QueueName.{Name}
-use Rattle.queue_name.specs.declared.name.TheConstants.{NAME_LIMIT}
+use Rattle.queue_name.specs.Limits.{name_limit}
 use Rattle.queue_name.specs.declared.parse.NameFault.{NameFault}
 use Rattle.queue_name.specs.declared.parse.NameFault.TheVariants as fault
 
@@ -82,7 +82,7 @@ named None None n = if has_empty n then Err fault.Empty else Ok n
 -- the name that a text is the spelling of, or why it is none
 unfoldable pub name_in : List ℕ → Result Name NameFault
 name_in text =
-    if nat_lt NAME_LIMIT (length text) then Err fault.Overlong
+    if nat_lt name_limit (length text) then Err fault.Overlong
     else named (position is_exclamation text) (bad_byte text) (components text)
 
 -- a refusal other than for memory is what the text deserves

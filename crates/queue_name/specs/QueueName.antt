@@ -1,7 +1,7 @@
 -- Names of scheduled queues, `campaign:tenant@domain`, and their one spelling (KumoMTA's manual, queue names).
 use Rattle.std.specs.Prelude.{ℕ, ◌==◌, nat_lt, nat_le, List, ◌∷◌, ◌++◌, length, Bool, true, not, ◌&&◌, Option, Some, None}
 use Rattle.std.specs.List.{list_all}
-use Rattle.queue_name.specs.declared.name.TheConstants.{NAME_LIMIT}
+use Rattle.queue_name.specs.Limits.{name_limit}
 
 pub record Name : Type 0 where
   pub campaign : Option (List ℕ)
@@ -40,4 +40,4 @@ spelling n = spelled n.campaign n.tenant n.domain
 abbrev pub is_name : Name → Bool
 is_name n =
     is_optional_component n.campaign && is_optional_component n.tenant && is_domain n.domain
-    && nat_le (length (spelling n)) NAME_LIMIT
+    && nat_le (length (spelling n)) name_limit

@@ -16,7 +16,7 @@ use Rattle.policy_toml.specs.Walks.{over_members, on_table, is_table, members_at
 use Rattle.policy_toml.specs.Domains.{none_met, faults_of_twice}
 use Rattle.shaping_policy.specs.declared.tables.TableKind.{TableKind}
 use Rattle.shaping_policy.specs.declared.tables.TableKind.TheVariants.{Default, Provider, Domain, Source}
-use Rattle.shaping_policy.specs.declared.patterns.TheConstants.{PATTERN_COUNT_LIMIT}
+use Rattle.shaping_policy.specs.Limits.{pattern_count_limit}
 use Rattle.shaping_policy.specs.OptionValues.{setting_at}
 use Rattle.shaping_policy.specs.RuleValues.{on_items, holds_only, pattern_at, action_at, trigger_at, lasting_at}
 use Rattle.shaping_policy.specs.Tables.{PlacedTable, PlacedRule, tables_in, rules_in}
@@ -90,7 +90,7 @@ count_up_to f places = count_by (λ other. not (is_lt (fault_cmp f other))) plac
 
 -- the texts past the limit, in the order of faults
 unfoldable pub faults_of_many : List Fault → List Fault
-faults_of_many places = filter (λ f. nat_lt PATTERN_COUNT_LIMIT (count_up_to f places)) places
+faults_of_many places = filter (λ f. nat_lt pattern_count_limit (count_up_to f places)) places
 
 -- a list of rules: a list of tables
 abbrev pub faults_of_entry : List ℕ → ℕ → Data → List Fault

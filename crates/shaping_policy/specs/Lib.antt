@@ -1,3 +1,4 @@
+pub mod Limits
 pub mod OptionValues
 pub mod RuleValues
 pub mod Tables

@@ -8,14 +8,14 @@ use Rattle.throttle_spec.specs.declared.parse.ThrottleFault.{ThrottleFault}
 use Rattle.policy_core.specs.declared.fault.Why.{Why}
 use Rattle.policy_core.specs.declared.fault.Why.TheVariants.{BadType, BadOption, BadThrottle}
 use Rattle.policy_core.specs.declared.options.Options.{Options}
-use Rattle.policy_core.specs.declared.options.TheConstants.{GREATEST_OPTION}
+use Rattle.policy_core.specs.Limits.{greatest_option}
 use Rattle.policy_core.specs.declared.rules.Setting.{Setting}
 use Rattle.policy_core.specs.declared.rules.Setting.TheVariants as set
 use Rattle.policy_toml.specs.Walks.{value_at}
 
 -- a number that an option may have
 abbrev pub option_number : ℕ → Result ℕ Why
-option_number n = if nat_le 1 n && nat_le n GREATEST_OPTION then Ok n else Err BadOption
+option_number n = if nat_le 1 n && nat_le n greatest_option then Ok n else Err BadOption
 
 abbrev pub whole_number : ℤ → Result ℕ Why
 whole_number (pos n) = option_number n

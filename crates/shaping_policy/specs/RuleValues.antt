@@ -12,9 +12,9 @@ use Rattle.policy_core.specs.declared.rules.Action.{Action}
 use Rattle.policy_core.specs.declared.rules.Action.TheVariants as act
 use Rattle.policy_core.specs.declared.rules.Trigger.{Trigger}
 use Rattle.policy_core.specs.declared.rules.Trigger.TheVariants as when
-use Rattle.policy_core.specs.declared.rules.TheConstants.{GREATEST_COUNT}
+use Rattle.policy_core.specs.Limits.{greatest_count}
 use Rattle.policy_toml.specs.Values.{duration_at}
-use Rattle.shaping_policy.specs.declared.patterns.TheConstants.{PATTERN_LIMIT}
+use Rattle.shaping_policy.specs.Limits.{pattern_limit}
 use Rattle.shaping_policy.specs.OptionValues.{setting_at}
 
 -- by whether there is a list
@@ -47,7 +47,7 @@ holds_only one other (member key d ms) = (bytes_eq key one || bytes_eq key other
 -- a search pattern of a text that is not too long
 abbrev pub pattern_text : Option (List ℕ) → Result (List ℕ) Why
 pattern_text None = Err BadPattern
-pattern_text (Some text) = if nat_le (length text) PATTERN_LIMIT && is_pattern text then Ok text else Err BadPattern
+pattern_text (Some text) = if nat_le (length text) pattern_limit && is_pattern text then Ok text else Err BadPattern
 
 unfoldable pub pattern_at : Data → Result (List ℕ) Why
 pattern_at d = pattern_text (as_str d)
@@ -99,7 +99,7 @@ abbrev pub threshold_of : Option ℕ → Option ℕ → Result Trigger Why
 threshold_of None period = Err BadTrigger
 threshold_of (Some n) None = Err BadTrigger
 threshold_of (Some n) (Some period) =
-    if nat_le 1 n && nat_le n GREATEST_COUNT then Ok (when.Threshold n period) else Err BadTrigger
+    if nat_le 1 n && nat_le n greatest_count then Ok (when.Threshold n period) else Err BadTrigger
 
 abbrev pub threshold_in : List ℕ → Result Trigger Why
 threshold_in text =

@@ -14,6 +14,7 @@ ghost use Rattle.shaping_policy.specs.ShapingFile.{shaping_file};
 mod domains;
 mod faults;
 mod ignored;
+pub mod laws;
 mod match_faults;
 mod option_values;
 mod patterns;
@@ -75,7 +76,7 @@ pub fn read_shaping<S: Search>(
 ) -> Result<(Shaping, Vec<Ignored>), PolicyFault>
     ensures ok { IfOk result (λ r. shaping_file text.now ≡ Ok (record { shaping = r.0; ignored = r.1.items })) }
     ensures err { IfErr result (λ fault. IsShapingRefusal fault (shaping_file text.now)) }
-    ensures cause { HasReadCause (S.faults search.old) (S.faults search.new) result }
+    ensures cause { HasReadCause (S.seen search.old).faults (S.seen search.new).faults result }
 {
     let document = open_document(alloc, PolicyFile::Shaping, text)?;
     let tables = tables::tables_in(alloc, &document)?;

@@ -34,7 +34,7 @@ pub(crate) fn note_patterns<S: Search>(
     search: &mut S,
 ) -> Result<(), SearchFault>
     ensures ok { OnOk result (faults.new ≡ first_of faults.old (pattern_faults (map seen_rule rules.now))) }
-    ensures cause { HasSearchCause (S.faults search.old) (S.faults search.new) result }
+    ensures cause { HasSearchCause (S.seen search.old).faults (S.seen search.new).faults result }
 {
     note_bad_patterns(alloc, faults, rules, search)?;
     match note_too_many(alloc, faults, rules) {
@@ -51,7 +51,7 @@ fn note_bad_patterns<S: Search>(
     search: &mut S,
 ) -> Result<(), SearchFault>
     ensures ok { OnOk result (faults.new ≡ first_of faults.old (flat_map faults_of_patterns (map seen_rule rules.now))) }
-    ensures cause { HasSearchCause (S.faults search.old) (S.faults search.new) result }
+    ensures cause { HasSearchCause (S.seen search.old).faults (S.seen search.new).faults result }
 {
     for rule in rules {
         note_rule(alloc, faults, rule, search)?;
@@ -68,7 +68,7 @@ fn note_rule<S: Search>(
     search: &mut S,
 ) -> Result<(), SearchFault>
     ensures ok { OnOk result (faults.new ≡ first_of faults.old (faults_of_patterns (seen_rule rule.now))) }
-    ensures cause { HasSearchCause (S.faults search.old) (S.faults search.new) result }
+    ensures cause { HasSearchCause (S.seen search.old).faults (S.seen search.new).faults result }
 {
     let Some(value) = entry(rule.members, "regex") else {
         return note_text(alloc, faults, rule, 0, Why::BadPattern);
@@ -91,7 +91,7 @@ fn note_list<S: Search>(
     search: &mut S,
 ) -> Result<(), SearchFault>
     ensures ok { OnOk result (faults.new ≡ first_of faults.old (faults_of_list pattern_at BadType rule.now.place rule.now.number (codes "regex") (items_view items.now))) }
-    ensures cause { HasSearchCause (S.faults search.old) (S.faults search.new) result }
+    ensures cause { HasSearchCause (S.seen search.old).faults (S.seen search.new).faults result }
 {
     if items.is_empty() {
         return note_text(alloc, faults, rule, 0, Why::BadType);
@@ -108,7 +108,7 @@ fn note_items<S: Search>(
     search: &mut S,
 ) -> Result<(), SearchFault>
     ensures ok { OnOk result (faults.new ≡ first_of faults.old (faults_from pattern_at rule.now.place rule.now.number (codes "regex") 1 (items_view items.now))) }
-    ensures cause { HasSearchCause (S.faults search.old) (S.faults search.new) result }
+    ensures cause { HasSearchCause (S.seen search.old).faults (S.seen search.new).faults result }
 {
     for (index, value) in items.iter().enumerate() {
         note_pattern(alloc, faults, rule, index as u64 + 1, value, search)?;
@@ -126,7 +126,7 @@ fn note_pattern<S: Search>(
     search: &mut S,
 ) -> Result<(), SearchFault>
     ensures ok { OnOk result (faults.new ≡ first_of faults.old (faults_of_read rule.now.place rule.now.number (codes "regex") item (pattern_at (view value.now)))) }
-    ensures cause { HasSearchCause (S.faults search.old) (S.faults search.new) result }
+    ensures cause { HasSearchCause (S.seen search.old).faults (S.seen search.new).faults result }
 {
     if is_pattern(value, search)? {
         return Ok(());
@@ -138,7 +138,7 @@ fn note_pattern<S: Search>(
 #[tactic(auto, unfolding(crate::specs::RuleValues::pattern_at))]
 fn is_pattern<S: Search>(value: &Value, search: &mut S) -> Result<bool, SearchFault>
     ensures read { IfOk result (λ is_one. is_one ≡ is_ok (pattern_at (view value.now))) }
-    ensures cause { HasSearchCause (S.faults search.old) (S.faults search.new) result }
+    ensures cause { HasSearchCause (S.seen search.old).faults (S.seen search.new).faults result }
 {
     match value.as_str() {
         Some(text) if text.len() <= PATTERN_LIMIT => search.built(text),

@@ -1,3 +1,4 @@
+pub mod Limits
 pub mod ReplyText
 pub mod Grammar
 pub mod Replies

@@ -12,7 +12,7 @@ use Rattle.smtp_reply.specs.declared.reader.Heard.{Heard}
 use Rattle.smtp_reply.specs.declared.reader.Heard.TheVariants.{Whole, More, Bad, TooLong}
 use Rattle.smtp_reply.specs.declared.reader.Fed.{Fed}
 use Rattle.smtp_reply.specs.declared.reader.ReplyReader.{ReplyReader}
-use Rattle.smtp_reply.specs.declared.reader.TheConstants.{REPLY_LIMIT}
+use Rattle.smtp_reply.specs.Limits.{reply_limit}
 use Rattle.smtp_reply.specs.ReplyText.{IsReplyText}
 use Rattle.smtp_reply.specs.Grammar.{is_reply, is_front, is_first_digit, is_digit, lines_of, code_in}
 use Rattle.smtp_reply.specs.Replies.{heard, code_of, text_of_line, has_bytes, waiting, one_line_text}
@@ -97,7 +97,7 @@ next_place next.Bad place = place
 -- the answer, by what the last byte made of the bytes and its offset
 abbrev pub answer_of : Next → ℕ → Heard
 answer_of next.Whole at = Whole
-answer_of (next.Front place) at = if nat_lt (at + 1) REPLY_LIMIT then More else TooLong
+answer_of (next.Front place) at = if nat_lt (at + 1) reply_limit then More else TooLong
 answer_of next.Bad at = Bad at
 
 -- what the reader keeps of the bytes, by its answer: nothing where it answers no more than that
@@ -124,7 +124,7 @@ pub record Feeds (so_far piece : List ℕ) (answer : Fed) (reader : ReplyReader)
 pub record IsProperReply (bytes : List ℕ) : Type 0 where
   pub is_reply : is_reply bytes ≡ true
   pub long : 4 ≤ length bytes
-  pub short : length bytes ≤ REPLY_LIMIT
+  pub short : length bytes ≤ reply_limit
   pub low : 200 ≤ code_of bytes
   pub high : code_of bytes < 600
   pub text : IsReplyText (code_of bytes) (one_line_text bytes)

@@ -2,8 +2,8 @@
 -- long. And what a reply says.
 use Rattle.std.specs.Prelude.{ℕ, ◌+◌, ◌-◌, ◌*◌, ◌==◌, nat_lt, List, [], ◌∷◌, ◌++◌, length, take, drop, map, flat_map, Bool, true, false, not, if◌then◌else◌}
 use Rattle.std.specs.Str.Lines.{strip_carriage_return}
-use Rattle.kumo_base.specs.declared.room.TheConstants.{REPLY_TEXT_LIMIT}
-use Rattle.smtp_reply.specs.declared.reader.TheConstants.{REPLY_LIMIT}
+use Rattle.kumo_base.specs.Limits.{reply_text_limit}
+use Rattle.smtp_reply.specs.Limits.{reply_limit}
 use Rattle.smtp_reply.specs.declared.reader.Heard.{Heard}
 use Rattle.smtp_reply.specs.declared.reader.Heard.TheVariants.{Whole, More, Bad, TooLong}
 use Rattle.smtp_reply.specs.declared.reader.Fed.{Fed}
@@ -20,7 +20,7 @@ heard_from front [] = fed (length front) More
 heard_from front (b ∷ bytes) =
     if is_reply (front ++ b ∷ []) then fed (length front + 1) Whole
     else (if not (is_front (front ++ b ∷ [])) then fed (length front + 1) (Bad (length front))
-    else (if nat_lt (length front + 1) REPLY_LIMIT then heard_from (front ++ b ∷ []) bytes
+    else (if nat_lt (length front + 1) reply_limit then heard_from (front ++ b ∷ []) bytes
     else fed (length front + 1) TooLong))
 
 -- what the bytes begin with, and how many of them it takes
@@ -71,7 +71,7 @@ shown_line line = shown_text (text_of_line line)
 
 -- the code and the text of each line on one line, cut to what is kept
 unfoldable pub one_line_text : List ℕ → List ℕ
-one_line_text reply = take REPLY_TEXT_LIMIT (code_in reply ++ flat_map shown_line (lines_of reply))
+one_line_text reply = take reply_text_limit (code_in reply ++ flat_map shown_line (lines_of reply))
 
 abbrev pub reply_of : List ℕ → Reply
 reply_of reply = record { code = code_of reply; text = one_line_text reply }

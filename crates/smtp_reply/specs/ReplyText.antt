@@ -4,7 +4,7 @@ use Rattle.std.specs.List.{list_all}
 use Rattle.smtp_reply.specs.declared.reply.Reply.{Reply}
 use Rattle.smtp_reply.specs.declared.reply.Outcome.{Outcome}
 use Rattle.smtp_reply.specs.declared.reply.Outcome.TheVariants as outcome
-use Rattle.kumo_base.specs.declared.room.TheConstants.{REPLY_TEXT_LIMIT}
+use Rattle.kumo_base.specs.Limits.{reply_text_limit}
 
 -- the three digits of a code
 abbrev pub digits_of : ℕ → List ℕ
@@ -25,7 +25,7 @@ begins_with_code code (a ∷ (b ∷ (c ∷ (d ∷ more)))) = bytes_eq (a ∷ (b 
 pub record IsReplyText (code : ℕ) (text : List ℕ) : Type 0 where
   pub begins : (text ≡ digits_of code) ⊎ ((more : List ℕ) × (text ≡ digits_of code ++ (32 ∷ more)) × (0 < length more))
   pub printable : IsTrue (list_all is_printable text)
-  pub within : length text ≤ REPLY_TEXT_LIMIT
+  pub within : length text ≤ reply_text_limit
 
 -- a reply of the class that its code's first digit names
 pub record IsReplyOf (class : ℕ) (r : Reply) : Type 0 where

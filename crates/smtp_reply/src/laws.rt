@@ -6,6 +6,7 @@ ghost use Rattle.smtp_reply.specs.declared.reader.TheConstants.{REPLY_LIMIT};
 ghost use Rattle.smtp_reply.specs.Grammar.{is_reply, is_front};
 ghost use Rattle.smtp_reply.specs.Replies.{heard, fed};
 ghost use Rattle.smtp_reply.specs.Reading.{IsWhole, Reads, IsProperReply};
+ghost use Rattle.smtp_reply.specs.Limits.{reply_limit};
 
 /// What is heard does not change when more bytes come: the pieces in which a reply comes do not matter.
 pub fn heard_stays()
@@ -49,4 +50,9 @@ pub fn more_is_a_front()
 /// text that keeps its rules.
 pub fn reader_took_a_reply()
     ensures { (reader : ReplyReader) (bytes : List ℕ) → IsWhole reader → Reads reader bytes → IsProperReply bytes }
+{}
+
+/// The limits that the code has are those that the definitions state.
+pub fn limits_are_as_stated()
+    ensures { REPLY_LIMIT ≡ reply_limit }
 {}

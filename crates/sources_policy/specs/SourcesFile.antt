@@ -9,12 +9,12 @@ use Rattle.policy_core.specs.declared.fault.Why.TheVariants.{BadType, BadName, B
 use Rattle.policy_core.specs.declared.fault.PolicyFile.TheVariants as file
 use Rattle.policy_core.specs.declared.fault.Ignored.{Ignored}
 use Rattle.policy_core.specs.Names.{is_source_name}
-use Rattle.policy_core.specs.declared.settings.TheConstants.{UNSPECIFIED}
+use Rattle.policy_core.specs.Limits.{unspecified, localhost}
 use Rattle.policy_core.specs.declared.sources.Source.{Source}
 use Rattle.policy_core.specs.declared.sources.Entrant.{Entrant}
 use Rattle.policy_core.specs.declared.sources.Pool.{Pool}
 use Rattle.policy_core.specs.declared.sources.Sources.{Sources}
-use Rattle.sources_policy.specs.declared.values.TheConstants.{ENTRANT_LIMIT}
+use Rattle.sources_policy.specs.Limits.{entrant_limit}
 use Rattle.policy_toml.specs.declared.fault.Fault.{Fault}
 use Rattle.policy_toml.specs.Places.{fault, joined, whole_table, ignored_at}
 use Rattle.policy_toml.specs.Values.{text_in, document_in}
@@ -64,7 +64,7 @@ faults_of_source name d =
 
 -- a source that the file has a table for, and the one that is always there
 abbrev pub is_known_source : Members → List ℕ → Bool
-is_known_source sources name = bytes_eq name UNSPECIFIED.now || is_some (table_at name sources)
+is_known_source sources name = bytes_eq name unspecified || is_some (table_at name sources)
 
 -- the table of an entrant in a pool
 abbrev pub faults_at_entrant_key : List ℕ → List ℕ → Data → List Fault
@@ -101,7 +101,7 @@ has_more_than limit entrants = nat_lt limit (length entrants)
 
 abbrev pub faults_if_many : List ℕ → Members → List Fault
 faults_if_many place ms =
-    if has_more_than ENTRANT_LIMIT (entrants_of ms) then fault place whole_table TooMany ∷ [] else []
+    if has_more_than entrant_limit (entrants_of ms) then fault place whole_table TooMany ∷ [] else []
 
 abbrev pub faults_in_pool : Members → List ℕ → List ℕ → Members → List Fault
 faults_in_pool sources place name ms =
@@ -137,13 +137,13 @@ put_by_name name_of item items =
 
 -- a source, and the one that is always there; a table of that name stands for it
 abbrev pub ehlo_of : Members → List ℕ
-ehlo_of ms = unwrap_or (value_at ehlo_at (codes "ehlo_domain") ms) (codes "localhost")
+ehlo_of ms = unwrap_or (value_at ehlo_at (codes "ehlo_domain") ms) localhost
 
 abbrev pub source_of : List ℕ → Members → Source
 source_of name ms = record { name = name; ehlo = ehlo_of ms }
 
 abbrev pub unspecified_source : Source
-unspecified_source = record { name = UNSPECIFIED.now; ehlo = codes "localhost" }
+unspecified_source = record { name = unspecified; ehlo = localhost }
 
 abbrev pub source_at : List ℕ → Data → List Source
 source_at name d = on_table (λ t. source_of name t ∷ []) [] (as_table d)
@@ -156,8 +156,8 @@ pool_of name ms = record { name = name; entrants = entrants_of ms }
 
 abbrev pub unspecified_pool : Pool
 unspecified_pool = record {
-  name = UNSPECIFIED.now;
-  entrants = record { source = UNSPECIFIED.now; weight = 1 } ∷ [];
+  name = unspecified;
+  entrants = record { source = unspecified; weight = 1 } ∷ [];
 }
 
 abbrev pub pool_at : List ℕ → Data → List Pool

@@ -6,13 +6,14 @@
 
 ghost use Rattle.std.specs.Prelude.{◌≡◌, IfOk, IfErr, Ok, IsTrue};
 ghost use Rattle.policy_core.specs.declared.fault.PolicyFile.TheVariants as file;
-ghost use Rattle.policy_core.specs.declared.settings.TheConstants.{UNSPECIFIED};
+ghost use Rattle.policy_core.specs.Limits.{unspecified};
 ghost use Rattle.policy_core.specs.Policy.{has_pool, are_entrants_sources, are_sources_named};
 ghost use Rattle.policy_toml.specs.Reports.{IsRefusal};
 ghost use Rattle.sources_policy.specs.SourcesFile.{sources_file};
 
 mod faults;
 mod ignored;
+pub mod laws;
 mod order;
 mod sources;
 #[cfg(test)]
@@ -40,7 +41,7 @@ use std::alloc::Global;
 pub fn read_sources(alloc: Global, text: &[u8]) -> Result<(Sources, Vec<Ignored>), PolicyFault>
     ensures ok { IfOk result (λ r. sources_file text.now ≡ Ok (record { sources = r.0; ignored = r.1.items })) }
     ensures err { IfErr result (λ fault. IsRefusal file.Sources fault (sources_file text.now)) }
-    ensures base { IfOk result (λ r. IsTrue (has_pool r.0 UNSPECIFIED.now)) }
+    ensures base { IfOk result (λ r. IsTrue (has_pool r.0 unspecified)) }
     ensures entrants { IfOk result (λ r. IsTrue (are_entrants_sources r.0)) }
     ensures source_names { IfOk result (λ r. IsTrue (are_sources_named r.0)) }
 {

@@ -7,13 +7,10 @@ ghost use Rattle.sources_policy.specs.SourcesFile.{sources_in, sources_of, pools
 use crate::order::put_by_name;
 use crate::values::{ehlo_at, weight_at};
 use kumo_base::{Items, Memory, Text};
-use policy_core::{Entrant, Pool, Source, Sources, UNSPECIFIED};
+use policy_core::{DEFAULT_EHLO, Entrant, Pool, Source, Sources, UNSPECIFIED};
 use policy_toml::{entry, table_at};
 use std::alloc::Global;
 use toml::Table;
-
-/// The argument of EHLO where a source gives none.
-const LOCALHOST: &str = "localhost";
 
 /// The sources and pools of the document.
 #[tactic(auto, unfolding(crate::specs::SourcesFile::sources_in))]
@@ -66,9 +63,9 @@ fn ehlo_of(table: &Table) -> &str
     match entry(table, "ehlo_domain") {
         Some(value) => match ehlo_at(value) {
             Ok(text) => text,
-            Err(_) => LOCALHOST,
+            Err(_) => DEFAULT_EHLO,
         },
-        None => LOCALHOST,
+        None => DEFAULT_EHLO,
     }
 }
 
@@ -78,7 +75,7 @@ fn unspecified_source(alloc: Global) -> Result<Source, Memory>
 {
     Ok(Source {
         name: Text::of(alloc, UNSPECIFIED)?,
-        ehlo: Text::of(alloc, LOCALHOST)?,
+        ehlo: Text::of(alloc, DEFAULT_EHLO)?,
     })
 }
 

@@ -1,3 +1,4 @@
+pub mod Limits
 pub mod Throttle
 pub mod Bucket
 pub mod ThrottleText

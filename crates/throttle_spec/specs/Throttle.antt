@@ -1,8 +1,8 @@
 -- Throttles, as `100/min`: a quantity a period, and a burst. Which lists of moments keep one, by all their pairs.
 use Rattle.std.specs.Prelude.{◌≡◌, ◌≤◌, ◌<◌, ◌⊎◌, ℕ, zero, suc, ◌+◌, ◌-◌, ◌*◌, nat_le, nat_lt, Bool, true, ◌&&◌, if◌then◌else◌, List, [], ◌∷◌, ◌++◌, length, slice_index}
 use Rattle.kumo_base.specs.Moment.{clamped}
-use Rattle.kumo_base.specs.declared.moment.TheConstants.{LAST_MOMENT}
-use Rattle.throttle_spec.specs.declared.throttle.TheConstants.{GREATEST_QUANTITY, LONGEST_PERIOD}
+use Rattle.kumo_base.specs.Limits.{latest_moment}
+use Rattle.throttle_spec.specs.Limits.{greatest_quantity, longest_period}
 
 -- so many a period of so many milliseconds, and so many at one moment
 pub record Throttle : Type 0 where
@@ -15,9 +15,9 @@ pub record IsThrottle (s : Throttle) : Type 0 where
   pub some_quantity : 1 ≤ s.quantity
   pub some_period : 1 ≤ s.period
   pub some_burst : 1 ≤ s.burst
-  pub quantity_limit : s.quantity ≤ GREATEST_QUANTITY
-  pub period_limit : s.period ≤ LONGEST_PERIOD
-  pub burst_limit : s.burst ≤ GREATEST_QUANTITY
+  pub quantity_limit : s.quantity ≤ greatest_quantity
+  pub period_limit : s.period ≤ longest_period
+  pub burst_limit : s.burst ≤ greatest_quantity
 
 -- how many stand from place i to place j
 abbrev pub count_from : ℕ → ℕ → ℕ
@@ -51,14 +51,14 @@ first_from test (suc steps) t = if test t then t else first_from test steps (t +
 
 -- the first moment from t to the last one that conforms behind the moments taken, and the last one where none does
 abbrev pub least_admitted : Throttle → List ℕ → ℕ → ℕ
-least_admitted s moments t = first_from (λ u. conforms s (moments ++ u ∷ [])) (LAST_MOMENT - clamped t) (clamped t)
+least_admitted s moments t = first_from (λ u. conforms s (moments ++ u ∷ [])) (latest_moment - clamped t) (clamped t)
 
 -- what that says of a moment u
 pub record IsLeastAdmitted (s : Throttle) (moments : List ℕ) (t u : ℕ) : Type 0 where
   pub from : clamped t ≤ u
-  pub within : u ≤ LAST_MOMENT
+  pub within : u ≤ latest_moment
   pub none_before : (v : ℕ) → clamped t ≤ v → v < u → Conforms s (moments ++ v ∷ []) → ⊥
-  pub admitted : Conforms s (moments ++ u ∷ []) ⊎ (u ≡ LAST_MOMENT)
+  pub admitted : Conforms s (moments ++ u ∷ []) ⊎ (u ≡ latest_moment)
 
 -- whether a moment is in a window, without the window's end and with it
 abbrev pub is_in : ℕ → ℕ → ℕ → Bool

@@ -5,7 +5,7 @@ use Rattle.std.specs.Char.{is_ascii_digit}
 use Rattle.std.specs.Str.Parse.{digits_value}
 use Rattle.kumo_base.specs.Duration.{unit_milliseconds}
 use Rattle.throttle_spec.specs.Throttle.{Throttle}
-use Rattle.throttle_spec.specs.declared.throttle.TheConstants.{GREATEST_QUANTITY, LONGEST_PERIOD, SHORTEST_UNIT}
+use Rattle.throttle_spec.specs.Limits.{greatest_quantity, longest_period, shortest_unit}
 use Rattle.throttle_spec.specs.declared.parse.ThrottleFault.{ThrottleFault}
 use Rattle.throttle_spec.specs.declared.parse.ThrottleFault.TheVariants.{NoSlash, BadQuantity, Zero, BadPeriod, BadBurst}
 
@@ -56,7 +56,7 @@ unfoldable pub is_number : List ℕ → Bool
 is_number text = list_all is_digits (slice_split is_underscore text)
 
 abbrev pub within_limit : ℕ → Option ℕ
-within_limit n = if nat_le n GREATEST_QUANTITY then Some n else None
+within_limit n = if nat_le n greatest_quantity then Some n else None
 
 -- the number that a text writes, where it is one and not too large
 unfoldable pub number_of : List ℕ → Option ℕ
@@ -64,7 +64,7 @@ number_of text = if is_number text then within_limit (digits_value 10 (filter is
 
 abbrev pub from_second_to_day : Option ℕ → Option ℕ
 from_second_to_day None = None
-from_second_to_day (Some unit) = if nat_le SHORTEST_UNIT unit && nat_le unit LONGEST_PERIOD then Some unit else None
+from_second_to_day (Some unit) = if nat_le shortest_unit unit && nat_le unit longest_period then Some unit else None
 
 -- the milliseconds of a unit from a second to a day
 abbrev pub period_of : List ℕ → Option ℕ

@@ -4,6 +4,8 @@ ghost use Rattle.std.specs.List.{count_by};
 ghost use Rattle.kumo_base.specs.Moment.{clamped};
 ghost use Rattle.throttle_spec.specs.Throttle.{Throttle, IsThrottle, Conforms, least_admitted, IsLeastAdmitted, is_in, is_in_closed};
 ghost use Rattle.throttle_spec.specs.Bucket.{BucketState, StandsFor, IsAdmitted};
+ghost use Rattle.throttle_spec.specs.Limits.{greatest_quantity, longest_period, shortest_unit};
+ghost use Rattle.throttle_spec.specs.declared.throttle.TheConstants.{GREATEST_QUANTITY, LONGEST_PERIOD, SHORTEST_UNIT};
 
 /// Of moments that keep a throttle fewer than quantity and burst together are in a window of one period, its end left out.
 pub fn window_holds_fewer_than_quantity_and_burst()
@@ -28,4 +30,11 @@ pub fn moments_determine_the_bucket()
 /// The least admitted moment is from the moment asked for to the last one, conforms or is the last, and none before conforms.
 pub fn least_admitted_is_least()
     ensures { (s : Throttle) (moments : List ℕ) (t : ℕ) → IsLeastAdmitted s moments t (least_admitted s moments t) }
+{}
+
+/// The limits that the code has are those that the definitions state.
+pub fn limits_are_as_stated()
+    ensures greatest_quantity_is { GREATEST_QUANTITY ≡ greatest_quantity }
+    ensures longest_period_is { LONGEST_PERIOD ≡ longest_period }
+    ensures shortest_unit_is { SHORTEST_UNIT ≡ shortest_unit }
 {}

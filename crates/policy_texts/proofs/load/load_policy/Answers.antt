@@ -12,7 +12,7 @@ use Rattle.policy_texts.proofs.load.load_policy.Goals as goal
 pub returns-in_err-mx-clause-err : goal.returns-in_err-mx-clause-err
 returns-in_err-mx-clause-err g c =
     let p = err_from_is_err_and c.from_residual-in_err-mx.result c.from_residual-in_err-mx.ensures.1 in
-    let told = g.T.Texts.told c.args.texts.now in
+    let told = (g.T.Texts.seen c.args.texts.now).told in
     let s : SourcesFile = record { sources = c.in_ok-sources.sources; ignored = c.in_ok-sources.ignored.items } in
     let q : QueuesFile = record { queues = c.in_ok-queues.queues; ignored = c.in_ok-queues.of_queues.items } in
     let h : ShapingFile = record { shaping = c.in_ok-shaping.shaping; ignored = c.in_ok-shaping.of_shaping.items } in
@@ -29,7 +29,7 @@ returns-in_err-mx-clause-err g c =
 pub returns-in_err-policy-clause-err : goal.returns-in_err-policy-clause-err
 returns-in_err-policy-clause-err g c =
     let p = err_from_is_err_and c.from_residual-in_err-policy.result c.from_residual-in_err-policy.ensures.1 in
-    let told = g.T.Texts.told c.args.texts.now in
+    let told = (g.T.Texts.seen c.args.texts.now).told in
     let s : SourcesFile = record { sources = c.in_ok-sources.sources; ignored = c.in_ok-sources.ignored.items } in
     let q : QueuesFile = record { queues = c.in_ok-queues.queues; ignored = c.in_ok-queues.of_queues.items } in
     let h : ShapingFile = record { shaping = c.in_ok-shaping.shaping; ignored = c.in_ok-shaping.of_shaping.items } in
@@ -46,7 +46,7 @@ returns-in_err-policy-clause-err g c =
 
 pub returns-clause-ok : goal.returns-clause-ok
 returns-clause-ok g c =
-    let told = g.T.Texts.told c.args.texts.now in
+    let told = (g.T.Texts.seen c.args.texts.now).told in
     let s : SourcesFile = record { sources = c.in_ok-sources.sources; ignored = c.in_ok-sources.ignored.items } in
     let q : QueuesFile = record { queues = c.in_ok-queues.queues; ignored = c.in_ok-queues.of_queues.items } in
     let h : ShapingFile = record { shaping = c.in_ok-shaping.shaping; ignored = c.in_ok-shaping.of_shaping.items } in

@@ -9,5 +9,5 @@ abbrev pub invariant-loop-rule : goal.invariant-loop-rule
 invariant-loop-rule g l = record {
   same : first_of l.faults (flat_map faults_of_patterns (map seen_rule (drop l.rule-index l.rules)))
       ≡ first_of l.fn.faults (flat_map faults_of_patterns (map seen_rule l.rules));
-  later : g.S.Search.faults l.fn.search ≤ g.S.Search.faults l.search;
+  later : (g.S.Search.seen l.fn.search).faults ≤ (g.S.Search.seen l.search).faults;
 }

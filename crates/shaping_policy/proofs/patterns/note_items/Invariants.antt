@@ -9,5 +9,5 @@ abbrev pub invariant-loop-index : goal.invariant-loop-index
 invariant-loop-index g l = record {
   same : first_of l.faults (faults_from pattern_at l.rule.place l.rule.number (codes "regex") (l.index + 1) (items_view (drop l.index l.items)))
       ≡ first_of l.fn.faults (faults_from pattern_at l.rule.place l.rule.number (codes "regex") 1 (items_view l.items));
-  later : g.S.Search.faults l.fn.search ≤ g.S.Search.faults l.search;
+  later : (g.S.Search.seen l.fn.search).faults ≤ (g.S.Search.seen l.search).faults;
 }
