@@ -4,4 +4,3 @@ pub mod Connection
 pub mod Candidates
 pub mod Openable
 pub mod Legal
-pub mod LogText

@@ -1,7 +1,7 @@
-//! The history of the core: what an entry is, which entry may follow which history, and what is written of each.
+//! The history of the core: what an entry is, and which entry may follow which history.
 //!
-//! The definitions in specs/ filter and count over plain lists of entries. Whoever keeps a history is held to them, and
-//! whoever writes or reads a log is held to the line of an entry.
+//! The definitions in specs/ filter and count over plain lists of entries. Whoever keeps a history is held to them. What is
+//! written of an entry is told by the crate `delivery_log`.
 #![tactic(auto)]
 
 mod entry;

@@ -5,7 +5,7 @@ use Rattle.kumo_outside.specs.Told.{extended, TakesFront}
 use Rattle.queue_name.specs.declared.message.Message.{Message}
 use Rattle.kumo_outside.specs.declared.session.Session.{Session}
 use Rattle.history_core.specs.declared.entry.Entry.{Entry}
-use Rattle.history_core.specs.LogText.{log_text}
+use Rattle.delivery_log.specs.LogText.{log_text}
 use Rattle.mail_input.specs.Inputs.{messages, refused}
 use Rattle.mail_input.specs.declared.MailWhy.{MailWhy}
 use Rattle.kumo_run.specs.declared.refusal.Refusal.{Refusal}

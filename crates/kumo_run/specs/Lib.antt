@@ -7,7 +7,4 @@ pub mod Working
 pub mod Run
 pub mod Printing
 pub mod Ends
-pub mod LogMembers
-pub mod LogGathered
-pub mod ScriptedPeer
 pub mod Work

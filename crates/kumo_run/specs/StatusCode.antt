@@ -1,7 +1,7 @@
 -- The number of each status.
 use Rattle.std.specs.Prelude.{ℕ, Result, Ok, Err}
-use Rattle.kumo_run.specs.declared.delivery_log.log.LogWriteFault.{LogWriteFault}
-use Rattle.kumo_run.specs.declared.delivery_log.log.LogWriteFault.TheVariants as log
+use Rattle.delivery_log.specs.declared.log.LogWriteFault.{LogWriteFault}
+use Rattle.delivery_log.specs.declared.log.LogWriteFault.TheVariants as log
 use Rattle.kumo_run.specs.declared.status.Status.{Status}
 use Rattle.kumo_run.specs.declared.status.Status.TheVariants.{Drained, Usage, Policy, Mail, ReadFault, WriteFault, Limit, Memory, NotYet, SearchFault}
 

@@ -9,7 +9,7 @@ use Rattle.mail_input.specs.declared.MailFault.TheVariants as fault
 use Rattle.kumo_run.specs.Given.{Given, too_long, mail_gives, given_by, IsMany}
 use Rattle.kumo_run.specs.declared.refusal.Refusal.{Refusal}
 use Rattle.kumo_run.specs.declared.refusal.Refusal.TheVariants as refusal
-use Rattle.kumo_run.specs.ScriptedPeer.{LinkerState}
+use Rattle.scripted_peer.specs.ScriptedPeer.{LinkerState}
 use Rattle.kumo_run.specs.Delivery.{IsSessionOf, IsNotDelivered}
 use Rattle.kumo_run.specs.Ends.{Gives, FallsShort}
 

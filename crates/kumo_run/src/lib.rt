@@ -2,19 +2,15 @@
 //! and `explain` print.
 //!
 //! `perform` is what `main` calls and what the headline is a contract of. `work.rt` sends a mail text, and `printing.rt` makes
-//! the texts on policies; `refusal.rt` has the lines of what is refused, and `status.rt` how a run ends. The modules `registry`, `dispatcher`,
-//! `delivery_log` and `scripted_peer` will become crates of these names.
+//! the texts on policies; `refusal.rt` has the lines of what is refused, and `status.rt` how a run ends. The modules `registry`
+//! and `dispatcher` will become crates of these names.
 #![tactic(auto)]
 
-mod delivery_log;
 mod dispatcher;
 mod printing;
 mod refusal;
 mod registry;
-#[cfg(test)]
-mod rows;
 mod run;
-mod scripted_peer;
 mod status;
 mod work;
 
@@ -22,3 +18,4 @@ pub use refusal::Refusal;
 pub use run::{Finished, perform};
 pub use scripted_peer::{PeerReplies, ScriptedLink, ScriptedLinker};
 pub use status::Status;
+pub use work::send_mail_text;

@@ -10,12 +10,12 @@ ghost use Rattle.kumo_run.specs.Printing.{IsCheckText, IsExplainText, HasTextCau
 ghost use Rattle.kumo_run.specs.Work.{all_sessions};
 ghost use Rattle.kumo_run.specs.declared.status.Status.{Status};
 
-use crate::delivery_log::{LogWriteFault, write_log};
+use delivery_log::{LogWriteFault, write_log};
 use crate::printing::{check_text, explain_text};
 use crate::refusal::Refusal;
-use crate::scripted_peer::{PeerReplies, ScriptedLinker};
+use scripted_peer::{PeerReplies, ScriptedLinker};
 use crate::status::Status;
-use crate::work::work;
+use crate::work::send_mail_text;
 use command_words::{Asked, Command, PolicyNames, Sending, command_of};
 use history_core::History;
 use kumo_base::{Failed, Text};
@@ -171,7 +171,7 @@ fn send_mail<T: Texts, O: Sink>(
         (record { told_before = O.told out.old; told_after = O.told out.new; faults_before = O.faults out.old; faults_after = O.faults out.new })
         result.history (all_sessions peers.new.items) }
 {
-    match work(alloc, mail, texts, PeerReplies::new(), peers) {
+    match send_mail_text(alloc, mail, texts, PeerReplies::new(), peers) {
         Ok(history) => Ended {
             status: log_status(write_log(alloc, &history, out)),
             history: Some(history),

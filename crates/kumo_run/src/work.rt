@@ -10,7 +10,7 @@ ghost use Rattle.kumo_run.specs.Work.{HasReason, StopsShort, IsMisread, IsUnread
 use crate::dispatcher::{WorkFault, deliver};
 use crate::refusal::Refusal;
 use crate::registry::Registry;
-use crate::scripted_peer::{PeerReplies, ScriptedLinker};
+use scripted_peer::{PeerReplies, ScriptedLinker};
 use history_core::History;
 use kumo_base::Memory;
 use kumo_outside::{ReadTextFault, TEXT_LIMIT, Texts, read_text};
@@ -19,8 +19,8 @@ use queue_name::Message;
 use std::alloc::Global;
 
 /// Reads the mail text of that name and sends its message to peers that reply so. The linker that was used is added to
-/// `peers`.
-pub fn work<T: Texts>(
+/// `peers`. `perform` sends by this call, to peers that take each message.
+pub fn send_mail_text<T: Texts>(
     alloc: Global,
     mail: &str,
     texts: &mut T,

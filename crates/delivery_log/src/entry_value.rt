@@ -1,0 +1,286 @@
+//! What the line of an entry says, as a JSON value: one function for each event.
+ghost use Rattle.std.specs.Prelude.{◌≡◌, IfOk, OnOk};
+ghost use Rattle.serde_json.specs.Data.{put as with_member, string};
+ghost use Rattle.serde_json.specs.View.{members_view, view};
+ghost use Rattle.queue_name.specs.QueueName.{spelling};
+ghost use Rattle.history_core.specs.declared.entry.Event.TheVariants as event;
+ghost use Rattle.delivery_log.specs.LogText.{id_text, cause_text, lost_text, settled_kind, final_end, transient_failure, event_data, entry_data, whole_number};
+ghost use Rattle.delivery_log.specs.inside.LogMembers.{common_members, with_decision};
+
+use history_core::{Cause, Entry, Event, Next};
+use kumo_base::{Memory, Text};
+use queue_name::{Message, QueueName};
+use serde_json::{Map, Value, put};
+use smtp_reply::{Lost, Outcome};
+use std::alloc::Global;
+use uuid::Uuid;
+
+/// The value that the entry's line prints.
+#[tactic(auto, unfolding(crate::specs::LogText::entry_data))]
+pub(crate) fn entry_value(alloc: Global, entry: &Entry) -> Result<Value, Memory>
+    ensures { IfOk result (λ v. view v ≡ entry_data entry.now) }
+{
+    let at = entry.at;
+    let by = entry.who;
+    match &entry.what {
+        Event::Accepted(message) => reception(alloc, at, by, message),
+        Event::Promoted { id, source } => promoted(alloc, at, by, *id, source),
+        Event::Opened { conn, path, key } => opened(alloc, at, by, *conn, path, *key),
+        Event::Begun { conn, id, key } => begun(alloc, at, by, *conn, *id, *key),
+        Event::Ended {
+            conn,
+            id,
+            outcome,
+            next,
+        } => ended(alloc, at, by, *conn, *id, outcome, *next),
+        Event::Closed { conn, cause } => closed(alloc, at, by, *conn, *cause),
+        Event::Stopped => stopped(alloc, at, by),
+    }
+}
+
+/// A message was taken over.
+fn reception(alloc: Global, at: u64, by: u32, message: &Message) -> Result<Value, Memory>
+    ensures { IfOk result (λ v. view v ≡ event_data at by (event.Accepted message.now)) }
+{
+    let id = id_text(alloc, message.id)?;
+    let queue = queue_text(alloc, &message.name)?;
+    let mut line = began(alloc, at, by, "Reception")?;
+    put_text(&mut line, alloc, "body", message.body.as_str())?;
+    put_number(&mut line, alloc, "created", message.created)?;
+    put_text(&mut line, alloc, "id", id.as_str())?;
+    put_text(&mut line, alloc, "queue", queue.as_str())?;
+    put_text(&mut line, alloc, "recipient", message.recipient.as_str())?;
+    put_text(&mut line, alloc, "sender", message.sender.as_str())?;
+    Ok(Value::Object(line))
+}
+
+/// A message went to the ready queue of a path.
+fn promoted(alloc: Global, at: u64, by: u32, id: u128, source: &Text) -> Result<Value, Memory>
+    ensures { IfOk result (λ v. view v ≡ event_data at by (event.Promoted id source.now)) }
+{
+    let id = id_text(alloc, id)?;
+    let mut line = began(alloc, at, by, "Promoted")?;
+    put_text(&mut line, alloc, "id", id.as_str())?;
+    put_text(&mut line, alloc, "source", source.as_str())?;
+    Ok(Value::Object(line))
+}
+
+/// A connection was opened.
+fn opened(
+    alloc: Global,
+    at: u64,
+    by: u32,
+    conn: u64,
+    path: &Text,
+    key: u32,
+) -> Result<Value, Memory>
+    ensures { IfOk result (λ v. view v ≡ event_data at by (event.Opened conn path.now key)) }
+{
+    let mut line = began(alloc, at, by, "Opened")?;
+    put_number(&mut line, alloc, "conn", conn)?;
+    put_number(&mut line, alloc, "key", u64::from(key))?;
+    put_text(&mut line, alloc, "path", path.as_str())?;
+    Ok(Value::Object(line))
+}
+
+/// An attempt began.
+fn begun(alloc: Global, at: u64, by: u32, conn: u64, id: u128, key: u32) -> Result<Value, Memory>
+    ensures { IfOk result (λ v. view v ≡ event_data at by (event.Begun conn id key)) }
+{
+    let id = id_text(alloc, id)?;
+    let mut line = began(alloc, at, by, "Begun")?;
+    put_number(&mut line, alloc, "conn", conn)?;
+    put_text(&mut line, alloc, "id", id.as_str())?;
+    put_number(&mut line, alloc, "key", u64::from(key))?;
+    Ok(Value::Object(line))
+}
+
+/// An attempt ended.
+fn ended(
+    alloc: Global,
+    at: u64,
+    by: u32,
+    conn: u64,
+    id: u128,
+    outcome: &Outcome,
+    next: Next,
+) -> Result<Value, Memory>
+    ensures { IfOk result (λ v. view v ≡ event_data at by (event.Ended conn id outcome.now next)) }
+{
+    match next {
+        Next::Settled => {
+            let kind = settled_kind(outcome);
+            final_end(alloc, at, by, conn, id, kind, outcome)
+        }
+        Next::Due(moment) => transient_failure(alloc, at, by, conn, moment, id, outcome),
+        Next::Expired => final_end(alloc, at, by, conn, id, "Expiration", outcome),
+    }
+}
+
+/// An attempt ended for good.
+fn final_end(
+    alloc: Global,
+    at: u64,
+    by: u32,
+    conn: u64,
+    id: u128,
+    kind: &str,
+    outcome: &Outcome,
+) -> Result<Value, Memory>
+    ensures { IfOk result (λ v. view v ≡ final_end at by conn id kind.now outcome.now) }
+{
+    let id = id_text(alloc, id)?;
+    let mut line = began(alloc, at, by, kind)?;
+    put_number(&mut line, alloc, "conn", conn)?;
+    put_text(&mut line, alloc, "id", id.as_str())?;
+    put_decision(&mut line, alloc, outcome)?;
+    Ok(Value::Object(line))
+}
+
+/// An attempt ended, and its message is due again.
+fn transient_failure(
+    alloc: Global,
+    at: u64,
+    by: u32,
+    conn: u64,
+    due: u64,
+    id: u128,
+    outcome: &Outcome,
+) -> Result<Value, Memory>
+    ensures { IfOk result (λ v. view v ≡ transient_failure at by conn due id outcome.now) }
+{
+    let id = id_text(alloc, id)?;
+    let mut line = began(alloc, at, by, "TransientFailure")?;
+    put_number(&mut line, alloc, "conn", conn)?;
+    put_number(&mut line, alloc, "due", due)?;
+    put_text(&mut line, alloc, "id", id.as_str())?;
+    put_decision(&mut line, alloc, outcome)?;
+    Ok(Value::Object(line))
+}
+
+/// A connection was closed.
+fn closed(alloc: Global, at: u64, by: u32, conn: u64, cause: Cause) -> Result<Value, Memory>
+    ensures { IfOk result (λ v. view v ≡ event_data at by (event.Closed conn cause)) }
+{
+    let mut line = began(alloc, at, by, "Closed")?;
+    put_text(&mut line, alloc, "cause", cause_text(cause))?;
+    put_number(&mut line, alloc, "conn", conn)?;
+    Ok(Value::Object(line))
+}
+
+/// The work ended.
+fn stopped(alloc: Global, at: u64, by: u32) -> Result<Value, Memory>
+    ensures { IfOk result (λ v. view v ≡ event_data at by event.Stopped) }
+{
+    let line = began(alloc, at, by, "Stopped")?;
+    Ok(Value::Object(line))
+}
+
+/// The members that each line has: when, by which pass and what.
+fn began(alloc: Global, at: u64, by: u32, kind: &str) -> Result<Map<String, Value>, Memory>
+    ensures { IfOk result (λ line. members_view line.entries ≡ common_members at by kind.now) }
+{
+    let mut line = Map::new(alloc);
+    put_number(&mut line, alloc, "at", at)?;
+    put_number(&mut line, alloc, "by", u64::from(by))?;
+    put_text(&mut line, alloc, "kind", kind)?;
+    Ok(line)
+}
+
+/// Puts the reply's text, or why there was none.
+fn put_decision(
+    line: &mut Map<String, Value>,
+    alloc: Global,
+    outcome: &Outcome,
+) -> Result<(), Memory>
+    ensures { OnOk result (members_view line.new.entries ≡ with_decision outcome.now (members_view line.old.entries)) }
+{
+    match outcome {
+        Outcome::Delivered(reply) => put_text(line, alloc, "reply", reply.text.as_str()),
+        Outcome::Transient(reply) => put_text(line, alloc, "reply", reply.text.as_str()),
+        Outcome::Permanent(reply) => put_text(line, alloc, "reply", reply.text.as_str()),
+        Outcome::Lost(why) => put_text(line, alloc, "lost", lost_text(*why)),
+    }
+}
+
+/// Puts a text at a key.
+fn put_text(
+    line: &mut Map<String, Value>,
+    alloc: Global,
+    key: &str,
+    text: &str,
+) -> Result<(), Memory>
+    ensures { OnOk result (members_view line.new.entries ≡ with_member key.now (string text.now) (members_view line.old.entries)) }
+{
+    put(line, alloc, key, Value::try_from_str(alloc, text)?)?;
+    Ok(())
+}
+
+/// Puts a number at a key.
+fn put_number(
+    line: &mut Map<String, Value>,
+    alloc: Global,
+    key: &str,
+    number: u64,
+) -> Result<(), Memory>
+    ensures { OnOk result (members_view line.new.entries ≡ with_member key.now (whole_number number) (members_view line.old.entries)) }
+{
+    put(line, alloc, key, Value::from(number))?;
+    Ok(())
+}
+
+/// An id in lower case, with hyphens.
+fn id_text(alloc: Global, id: u128) -> Result<Text, Memory>
+    ensures { IfOk result (λ text. text ≡ id_text id) }
+{
+    let mut buffer = Uuid::encode_buffer();
+    let text = Uuid::from_u128(id).hyphenated().encode_lower(&mut buffer);
+    Text::of(alloc, text)
+}
+
+/// The spelling of a queue's name.
+fn queue_text(alloc: Global, name: &QueueName) -> Result<Text, Memory>
+    ensures { IfOk result (λ text. text ≡ spelling name.now) }
+{
+    let mut text = Text::new(alloc);
+    name.text_into(alloc, &mut text)?;
+    Ok(text)
+}
+
+/// The kind of an attempt that settled its message.
+fn settled_kind(outcome: &Outcome) -> &'static str
+    ensures { result.now ≡ settled_kind outcome.now }
+{
+    match outcome {
+        Outcome::Delivered(_) => "Delivery",
+        Outcome::Transient(_) | Outcome::Permanent(_) | Outcome::Lost(_) => "Bounce",
+    }
+}
+
+/// Why there was no reply.
+fn lost_text(why: Lost) -> &'static str
+    ensures { result.now ≡ lost_text why }
+{
+    match why {
+        Lost::LinkFault => "LinkFault",
+        Lost::Ended => "Ended",
+        Lost::BadReply => "BadReply",
+        Lost::TooLong => "TooLong",
+    }
+}
+
+/// Why a connection was closed.
+fn cause_text(cause: Cause) -> &'static str
+    ensures { result.now ≡ cause_text cause }
+{
+    match cause {
+        Cause::Spent => "Spent",
+        Cause::Shed => "Shed",
+        Cause::Halted => "Halted",
+        Cause::Throttled => "Throttled",
+        Cause::Empty => "Empty",
+        Cause::Broken => "Broken",
+        Cause::Refused => "Refused",
+        Cause::Stop => "Stop",
+    }
+}

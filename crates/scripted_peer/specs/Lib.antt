@@ -1,0 +1,2 @@
+pub mod ScriptedPeer
+pub mod inside

@@ -1,0 +1,2 @@
+-- What loops and private functions cite. No public clause does.
+pub mod Begins

@@ -1,0 +1,140 @@
+//! A link to a scripted peer.
+ghost use Rattle.std.specs.Prelude.{◌≡◌, ◌≤◌, [], length, take, IfOk, Some, false};
+ghost use Rattle.kumo_outside.specs.Sessions.{Opening};
+ghost use Rattle.scripted_peer.specs.ScriptedPeer.{LinkState};
+
+use crate::peer::Peer;
+use crate::replies::{KEY_COUNT, PeerReplies};
+use kumo_base::{Bytes, Failed, Memory, Text};
+use kumo_outside::{Link, Session};
+use std::alloc::Global;
+use std::marker::Model;
+
+/// A link that a scripted linker opened. It takes each piece whole, and gives what its peer said; where nothing is left
+/// to give it is at its end.
+#[derive(Drop)]
+pub struct ScriptedLink {
+    place: usize,
+    host: Text,
+    source: Text,
+    /// The uses of the host's keys that the linker knew at the opening.
+    uses: [u32; KEY_COUNT],
+    peer: Peer,
+    /// How many of the bytes that the peer said the client got.
+    given: usize,
+    ended: bool,
+    faults: u64,
+}
+
+impl Model for ScriptedLink {
+    ghost Value = { LinkState };
+
+    ghost view = { λ l. record { opening = record { place = l.place; host = l.host; source = l.source; uses = l.uses }; sent = l.peer.heard.items; got = take l.given l.peer.said.items; ended = l.ended; faults = l.faults } };
+
+    ghost invariant = { λ l. l.given ≤ length l.peer.said.items };
+}
+
+impl ScriptedLink {
+    /// A link to a peer that has said its greeting.
+    pub fn open(
+        alloc: Global,
+        place: usize,
+        host: &str,
+        source: &str,
+        uses: [u32; KEY_COUNT],
+        replies: PeerReplies,
+    ) -> Result<ScriptedLink, Memory>
+        ensures { IfOk result (λ link. link ≡ record { opening = record { place = place; host = host.now; source = source.now; uses = uses }; sent = []; got = []; ended = false; faults = 0 }) }
+    {
+        Ok(ScriptedLink {
+            place,
+            host: Text::of(alloc, host)?,
+            source: Text::of(alloc, source)?,
+            uses,
+            peer: Peer::new(alloc, replies)?,
+            given: 0,
+            ended: false,
+            faults: 0,
+        })
+    }
+
+    /// The link's place among the sessions of its linker.
+    pub fn place(&self) -> usize
+        ensures { result ≡ self.now.opening.place }
+    {
+        self.place
+    }
+
+    /// The host that the link was opened to.
+    pub fn host(&self) -> &str
+        ensures { result.now ≡ self.now.opening.host }
+    {
+        self.host.as_str()
+    }
+
+    /// How often each key was said over this link.
+    pub fn uses(&self) -> [u32; KEY_COUNT] {
+        self.peer.uses()
+    }
+
+    /// What went over the link.
+    pub fn into_session(self) -> Session
+        ensures { result ≡ record { host = self.opening.host; source = self.opening.source; sent = self.sent; got = self.got; ended = self.ended; faults = self.faults; uses = self.opening.uses } }
+    {
+        let ScriptedLink {
+            place: _,
+            host,
+            source,
+            uses,
+            peer,
+            given,
+            ended,
+            faults,
+        } = self;
+        let (heard, said) = peer.into_heard_and_said(given);
+        Session {
+            host,
+            source,
+            sent: Bytes::of(heard),
+            got: Bytes::of(said),
+            ended,
+            faults,
+            uses,
+        }
+    }
+}
+
+impl Link for ScriptedLink {
+    ghost opening = { λ l. l.opening };
+
+    ghost sent = { λ l. Some l.sent };
+
+    ghost got = { λ l. Some l.got };
+
+    ghost ended = { λ l. l.ended };
+
+    ghost faults = { λ l. l.faults };
+
+    #[tactic(auto, unfolding(kumo_outside::specs::Told::extended))]
+    fn send(&mut self, piece: &[u8]) -> Result<usize, Failed> {
+        self.ended = false;
+        match self.peer.hear(piece) {
+            Ok(()) => Ok(piece.len()),
+            Err(_) => {
+                self.faults = self.faults.saturating_add(1);
+                Err(Failed)
+            }
+        }
+    }
+
+    #[tactic(auto, unfolding(kumo_outside::specs::Told::extended))]
+    fn recv(&mut self, buffer: &mut [u8]) -> Result<usize, Failed> {
+        let (_, left) = self.peer.said().split_at(self.given);
+        let count = left.len().min(buffer.len());
+        let (piece, _) = left.split_at(count);
+        buffer[..count].copy_from_slice(piece);
+        self.given += count;
+        self.ended = count == 0;
+        Ok(count)
+    }
+}
