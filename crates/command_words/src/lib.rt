@@ -13,8 +13,6 @@ mod command;
 mod names;
 mod numbers;
 mod options;
-#[cfg(test)]
-mod tests;
 mod verb;
 
 pub use command::{Asked, Command, Sending, command_of};

@@ -11,8 +11,6 @@ mod items;
 mod lines;
 mod moment;
 mod room;
-#[cfg(test)]
-mod tests;
 mod text;
 
 pub use bytes::Bytes;

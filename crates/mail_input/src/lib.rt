@@ -14,8 +14,6 @@ mod fields;
 mod line;
 mod name;
 mod reading;
-#[cfg(test)]
-mod tests;
 
 use crate::fault::LineFault;
 use crate::reading::Reading;
