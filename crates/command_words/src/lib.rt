@@ -14,8 +14,6 @@ pub mod laws;
 mod names;
 mod numbers;
 mod options;
-#[cfg(test)]
-mod tests;
 mod verb;
 
 pub use command::{Asked, Command, Sending, command_of};

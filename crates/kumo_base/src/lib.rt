@@ -12,8 +12,6 @@ pub mod laws;
 mod lines;
 mod moment;
 mod room;
-#[cfg(test)]
-mod tests;
 mod text;
 
 pub use bytes::Bytes;

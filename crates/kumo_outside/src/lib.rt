@@ -18,8 +18,6 @@ mod search;
 mod session;
 mod sink;
 mod stdout_sink;
-#[cfg(test)]
-mod tests;
 mod text_reader;
 mod texts;
 

@@ -15,8 +15,6 @@ pub mod laws;
 mod line;
 mod name;
 mod reading;
-#[cfg(test)]
-mod tests;
 
 use crate::fault::LineFault;
 use crate::reading::Reading;

@@ -8,8 +8,6 @@ pub mod laws;
 mod message;
 mod name;
 mod parse;
-#[cfg(test)]
-mod tests;
 
 pub use address::{domain_of, is_address};
 pub use component::{is_campaign_of_some_name, is_domain_of_some_name, is_tenant_of_some_name};

@@ -13,8 +13,6 @@ mod listen;
 mod parting;
 mod scratch;
 mod send;
-#[cfg(test)]
-mod tests;
 
 pub use delivery::{Tried, attempt};
 pub use greeting::{Greeted, greet};

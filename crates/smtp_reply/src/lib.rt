@@ -12,8 +12,6 @@ mod place;
 mod reader;
 mod reply;
 mod said;
-#[cfg(test)]
-mod tests;
 
 pub use reader::{Fed, Heard, REPLY_LIMIT, ReplyReader};
 pub use reply::{Lost, Outcome, Reply};

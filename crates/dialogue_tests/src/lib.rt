@@ -1,0 +1,20 @@
+//! Tests of the crates that talk to the world: the devices, searches of patterns, replies in pieces, and the dialogue over a
+//! link.
+//!
+//! It stands above these crates and has no function of its own, so that each of them is proved once and without tests.
+#![tactic(auto)]
+
+#[cfg(test)]
+mod devices;
+#[cfg(test)]
+mod grammar;
+#[cfg(test)]
+mod patterns;
+#[cfg(test)]
+mod replies;
+#[cfg(test)]
+mod script;
+#[cfg(test)]
+mod sessions;
+#[cfg(test)]
+mod stops;
