@@ -44,10 +44,10 @@ pub fn write_log<O: Sink>(
     history: &History,
     out: &mut O,
 ) -> Result<(), LogWriteFault>
-    ensures ok { OnOk result (O.told out.new ≡ extended (O.told out.old) (log_text history.now)) }
-    ensures err { OnErr result (TakesFront (O.told out.old) (O.told out.new) (log_text history.now)) }
-    ensures later { O.faults out.old ≤ O.faults out.new }
-    ensures cause { result ≡ Err fault.WriteFault → Rose (O.faults out.old) (O.faults out.new) }
+    ensures ok { OnOk result ((O.seen out.new).told ≡ extended (O.seen out.old).told (log_text history.now)) }
+    ensures err { OnErr result (TakesFront (O.seen out.old).told (O.seen out.new).told (log_text history.now)) }
+    ensures later { (O.seen out.old).faults ≤ (O.seen out.new).faults }
+    ensures cause { result ≡ Err fault.WriteFault → Rose (O.seen out.old).faults (O.seen out.new).faults }
 {
     let mut buffer = LineBuffer::new(alloc)?;
     for entry in history.entries() {
@@ -64,10 +64,10 @@ fn write_line<O: Sink>(
     line: &[u8],
     out: &mut O,
 ) -> Result<(), LogWriteFault>
-    ensures ok { OnOk result (Gathers (O.told out.old) (O.told out.new) buffer.new (buffer.old ++ line.now)) }
-    ensures err { OnErr result (TakesFront (O.told out.old) (O.told out.new) (buffer.old ++ line.now)) }
-    ensures later { O.faults out.old ≤ O.faults out.new }
-    ensures cause { result ≡ Err fault.WriteFault → Rose (O.faults out.old) (O.faults out.new) }
+    ensures ok { OnOk result (Gathers (O.seen out.old).told (O.seen out.new).told buffer.new (buffer.old ++ line.now)) }
+    ensures err { OnErr result (TakesFront (O.seen out.old).told (O.seen out.new).told (buffer.old ++ line.now)) }
+    ensures later { (O.seen out.old).faults ≤ (O.seen out.new).faults }
+    ensures cause { result ≡ Err fault.WriteFault → Rose (O.seen out.old).faults (O.seen out.new).faults }
 {
     if buffer.has_room(line.len()) {
         buffer.append(line);

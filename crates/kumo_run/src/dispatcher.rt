@@ -57,8 +57,8 @@ pub fn deliver<K: Linker>(
     linker: &mut K,
 ) -> Result<Registry, WorkFault>
     requires { IsProperMessage message.now }
-    ensures told { IfSome (K.sessions linker.old) (λ before. Delivers message.now result (K.sessions linker.new) before) }
-    ensures fault { result ≡ Err WorkFault.NotOpened → Rose (K.faults linker.old) (K.faults linker.new) }
+    ensures told { IfSome (K.seen linker.old).sessions (λ before. Delivers message.now result (K.seen linker.new).sessions before) }
+    ensures fault { result ≡ Err WorkFault.NotOpened → Rose (K.seen linker.old).faults (K.seen linker.new).faults }
 {
     let mut registry = ready(alloc, message)?;
     let path = path_text(alloc, message.name.domain.as_str())?;
@@ -79,8 +79,8 @@ fn connect<K: Linker>(
 ) -> Result<(), WorkFault>
     requires history { registry.old ≡ opened message.now }
     requires room { room ≡ [] }
-    ensures told { IfSome (K.sessions linker.old) (λ before. Connects message.now result registry.new (K.sessions linker.new) before) }
-    ensures fault { result ≡ Err WorkFault.NotOpened → Rose (K.faults linker.old) (K.faults linker.new) }
+    ensures told { IfSome (K.seen linker.old).sessions (λ before. Connects message.now result registry.new (K.seen linker.new).sessions before) }
+    ensures fault { result ≡ Err WorkFault.NotOpened → Rose (K.seen linker.old).faults (K.seen linker.new).faults }
 {
     let mut link = match linker.open(message.name.domain.as_str(), SOURCE) {
         Ok(link) => link,

@@ -22,9 +22,9 @@ pub(crate) fn check_text<T: Texts, S: Search>(
     names: &PolicyNames<'_>,
     search: &mut S,
 ) -> Result<String, Refusal>
-    ensures ok { IfOk result (λ text. IsCheckText (T.told texts.old) (seen_names names.now) (string_bytes text)) }
-    ensures err { IfErr result (λ why. HasTextCause (Stops (T.told texts.old) (seen_names names.now)) (record { texts_before = T.faults texts.old; texts_after = T.faults texts.new; search_before = S.faults search.old; search_after = S.faults search.new }) why) }
-    ensures search { S.faults search.old ≤ S.faults search.new }
+    ensures ok { IfOk result (λ text. IsCheckText (T.seen texts.old).told (seen_names names.now) (string_bytes text)) }
+    ensures err { IfErr result (λ why. HasTextCause (Stops (T.seen texts.old).told (seen_names names.now)) (record { texts_before = (T.seen texts.old).faults; texts_after = (T.seen texts.new).faults; search_before = (S.seen search.old).faults; search_after = (S.seen search.new).faults }) why) }
+    ensures search { (S.seen search.old).faults ≤ (S.seen search.new).faults }
 {
     match load_policy(alloc, texts, names, search) {
         Ok(loaded) => report_on(alloc, loaded.ignored.as_slice()),
@@ -40,9 +40,9 @@ pub(crate) fn explain_text<T: Texts, S: Search>(
     search: &mut S,
 ) -> Result<Text, Refusal>
     requires { IsTrue (is_name (seen_question asked.now).name) }
-    ensures ok { IfOk result (λ text. IsExplainText (T.told texts.old) (seen_question asked.now) text) }
-    ensures err { IfErr result (λ why. HasTextCause (Stops (T.told texts.old) (seen_names asked.now.texts)) (record { texts_before = T.faults texts.old; texts_after = T.faults texts.new; search_before = S.faults search.old; search_after = S.faults search.new }) why) }
-    ensures search { S.faults search.old ≤ S.faults search.new }
+    ensures ok { IfOk result (λ text. IsExplainText (T.seen texts.old).told (seen_question asked.now) text) }
+    ensures err { IfErr result (λ why. HasTextCause (Stops (T.seen texts.old).told (seen_names asked.now.texts)) (record { texts_before = (T.seen texts.old).faults; texts_after = (T.seen texts.new).faults; search_before = (S.seen search.old).faults; search_after = (S.seen search.new).faults }) why) }
+    ensures search { (S.seen search.old).faults ≤ (S.seen search.new).faults }
 {
     match load_policy(alloc, texts, &asked.texts, search) {
         Ok(loaded) => answer(alloc, &loaded.policy, asked),

@@ -63,9 +63,9 @@ impl Refusal {
 
     /// Prints the refusal's line. Where the sink fails a front of it was printed; a refusal stays what it is.
     pub fn print<O: Sink>(&self, out: &mut O)
-        ensures front { TakesFront (O.told out.old) (O.told out.new) (refusal_line self.now) }
-        ensures whole { (Rose (O.faults out.old) (O.faults out.new) → ⊥) → O.told out.new ≡ extended (O.told out.old) (refusal_line self.now) }
-        ensures later { O.faults out.old ≤ O.faults out.new }
+        ensures front { TakesFront (O.seen out.old).told (O.seen out.new).told (refusal_line self.now) }
+        ensures whole { (Rose (O.seen out.old).faults (O.seen out.new).faults → ⊥) → (O.seen out.new).told ≡ extended (O.seen out.old).told (refusal_line self.now) }
+        ensures later { (O.seen out.old).faults ≤ (O.seen out.new).faults }
     {
         match put_line(self, out) {
             Ok(()) => (),
@@ -76,9 +76,9 @@ impl Refusal {
 
 /// Puts the refusal's line, without memory.
 fn put_line<O: Sink>(refusal: &Refusal, out: &mut O) -> Result<(), Failed>
-    ensures whole { OnOk result (O.told out.new ≡ extended (O.told out.old) (refusal_line refusal.now)) }
-    ensures part { OnErr result (TakesFront (O.told out.old) (O.told out.new) (refusal_line refusal.now)) }
-    ensures cause { HasCause (O.faults out.old) (O.faults out.new) result }
+    ensures whole { OnOk result ((O.seen out.new).told ≡ extended (O.seen out.old).told (refusal_line refusal.now)) }
+    ensures part { OnErr result (TakesFront (O.seen out.old).told (O.seen out.new).told (refusal_line refusal.now)) }
+    ensures cause { HasCause (O.seen out.old).faults (O.seen out.new).faults result }
 {
     match refusal {
         Refusal::Usage => put_text(out, "error: usage\n"),
@@ -107,9 +107,9 @@ fn put_policy_line<O: Sink>(
     why: Why,
     out: &mut O,
 ) -> Result<(), Failed>
-    ensures whole { OnOk result (O.told out.new ≡ extended (O.told out.old) (refusal_line (Refusal.Policy file table.now key.now why))) }
-    ensures part { OnErr result (TakesFront (O.told out.old) (O.told out.new) (refusal_line (Refusal.Policy file table.now key.now why))) }
-    ensures cause { HasCause (O.faults out.old) (O.faults out.new) result }
+    ensures whole { OnOk result ((O.seen out.new).told ≡ extended (O.seen out.old).told (refusal_line (Refusal.Policy file table.now key.now why))) }
+    ensures part { OnErr result (TakesFront (O.seen out.old).told (O.seen out.new).told (refusal_line (Refusal.Policy file table.now key.now why))) }
+    ensures cause { HasCause (O.seen out.old).faults (O.seen out.new).faults result }
 {
     put_three(out, "error: policy ", file.name(), " ")?;
     put_three(out, table, " ", key)?;
@@ -119,9 +119,9 @@ fn put_policy_line<O: Sink>(
 
 /// Puts the line of a refused mail line.
 fn put_mail_line<O: Sink>(line: u64, why: MailWhy, out: &mut O) -> Result<(), Failed>
-    ensures whole { OnOk result (O.told out.new ≡ extended (O.told out.old) (refusal_line (Refusal.Mail line why))) }
-    ensures part { OnErr result (TakesFront (O.told out.old) (O.told out.new) (refusal_line (Refusal.Mail line why))) }
-    ensures cause { HasCause (O.faults out.old) (O.faults out.new) result }
+    ensures whole { OnOk result ((O.seen out.new).told ≡ extended (O.seen out.old).told (refusal_line (Refusal.Mail line why))) }
+    ensures part { OnErr result (TakesFront (O.seen out.old).told (O.seen out.new).told (refusal_line (Refusal.Mail line why))) }
+    ensures cause { HasCause (O.seen out.old).faults (O.seen out.new).faults result }
 {
     let mut buffer = Buffer::new();
     put_three(
@@ -152,9 +152,9 @@ fn end_of_line(why: MailWhy) -> &'static str
 
 /// Puts three texts, one behind the other.
 fn put_three<O: Sink>(out: &mut O, first: &str, second: &str, third: &str) -> Result<(), Failed>
-    ensures whole { OnOk result (O.told out.new ≡ extended (O.told out.old) (first.now ++ (second.now ++ third.now))) }
-    ensures part { OnErr result (TakesFront (O.told out.old) (O.told out.new) (first.now ++ (second.now ++ third.now))) }
-    ensures cause { HasCause (O.faults out.old) (O.faults out.new) result }
+    ensures whole { OnOk result ((O.seen out.new).told ≡ extended (O.seen out.old).told (first.now ++ (second.now ++ third.now))) }
+    ensures part { OnErr result (TakesFront (O.seen out.old).told (O.seen out.new).told (first.now ++ (second.now ++ third.now))) }
+    ensures cause { HasCause (O.seen out.old).faults (O.seen out.new).faults result }
 {
     put_text(out, first)?;
     put_text(out, second)?;
@@ -164,9 +164,9 @@ fn put_three<O: Sink>(out: &mut O, first: &str, second: &str, third: &str) -> Re
 
 /// Puts a text.
 fn put_text<O: Sink>(out: &mut O, text: &str) -> Result<(), Failed>
-    ensures whole { OnOk result (O.told out.new ≡ extended (O.told out.old) text.now) }
-    ensures part { OnErr result (TakesFront (O.told out.old) (O.told out.new) text.now) }
-    ensures cause { HasCause (O.faults out.old) (O.faults out.new) result }
+    ensures whole { OnOk result ((O.seen out.new).told ≡ extended (O.seen out.old).told text.now) }
+    ensures part { OnErr result (TakesFront (O.seen out.old).told (O.seen out.new).told text.now) }
+    ensures cause { HasCause (O.seen out.old).faults (O.seen out.new).faults result }
 {
     put_all(out, text.as_bytes())
 }

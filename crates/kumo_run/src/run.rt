@@ -56,10 +56,10 @@ pub fn perform<T: Texts, O: Sink, D, C, S: Search>(
 ) -> Finished<D, C, S>
     ensures disk { result.disk ≡ disk }
     ensures clock { result.clock ≡ clock }
-    ensures search { S.faults search ≤ S.faults result.search }
-    ensures ends { (status : Status) × (result.status ≡ code_of status) × Ends status words.now (T.told texts.old)
-        (record { texts_before = T.faults texts.old; texts_after = T.faults texts.new; search_before = S.faults search; search_after = S.faults result.search })
-        (record { told_before = O.told out.old; told_after = O.told out.new; faults_before = O.faults out.old; faults_after = O.faults out.new })
+    ensures search { (S.seen search).faults ≤ (S.seen result.search).faults }
+    ensures ends { (status : Status) × (result.status ≡ code_of status) × Ends status words.now (T.seen texts.old).told
+        (record { texts_before = (T.seen texts.old).faults; texts_after = (T.seen texts.new).faults; search_before = (S.seen search).faults; search_after = (S.seen result.search).faults })
+        (record { told_before = (O.seen out.old).told; told_after = (O.seen out.new).told; faults_before = (O.seen out.old).faults; faults_after = (O.seen out.new).faults })
         result.history (all_sessions result.peers.items) }
 {
     let mut peers = Vec::new(alloc);
@@ -91,11 +91,11 @@ fn run<T: Texts, O: Sink, S: Search>(
     peers: &mut Vec<ScriptedLinker>,
 ) -> Ended
     requires { peers.old.items ≡ [] }
-    ensures ends { Ends result.status words.now (T.told texts.old)
-        (record { texts_before = T.faults texts.old; texts_after = T.faults texts.new; search_before = S.faults search.old; search_after = S.faults search.new })
-        (record { told_before = O.told out.old; told_after = O.told out.new; faults_before = O.faults out.old; faults_after = O.faults out.new })
+    ensures ends { Ends result.status words.now (T.seen texts.old).told
+        (record { texts_before = (T.seen texts.old).faults; texts_after = (T.seen texts.new).faults; search_before = (S.seen search.old).faults; search_after = (S.seen search.new).faults })
+        (record { told_before = (O.seen out.old).told; told_after = (O.seen out.new).told; faults_before = (O.seen out.old).faults; faults_after = (O.seen out.new).faults })
         result.history (all_sessions peers.new.items) }
-    ensures search { S.faults search.old ≤ S.faults search.new }
+    ensures search { (S.seen search.old).faults ≤ (S.seen search.new).faults }
 {
     match command_of(words) {
         None => refused(Refusal::Usage, out),
@@ -117,9 +117,9 @@ fn run_send<T: Texts, O: Sink>(
     peers: &mut Vec<ScriptedLinker>,
 ) -> Ended
     requires { peers.old.items ≡ [] }
-    ensures { (search_before search_after : ℕ) → EndsSendIf (asks_for_mail_alone (seen_sending sending.now)) result.status (T.told texts.old sending.now.mail.now)
-        (record { texts_before = T.faults texts.old; texts_after = T.faults texts.new; search_before = search_before; search_after = search_after })
-        (record { told_before = O.told out.old; told_after = O.told out.new; faults_before = O.faults out.old; faults_after = O.faults out.new })
+    ensures { (search_before search_after : ℕ) → EndsSendIf (asks_for_mail_alone (seen_sending sending.now)) result.status ((T.seen texts.old).told sending.now.mail.now)
+        (record { texts_before = (T.seen texts.old).faults; texts_after = (T.seen texts.new).faults; search_before = search_before; search_after = search_after })
+        (record { told_before = (O.seen out.old).told; told_after = (O.seen out.new).told; faults_before = (O.seen out.old).faults; faults_after = (O.seen out.new).faults })
         result.history (all_sessions peers.new.items) }
 {
     if asks_for_mail_alone(sending) {
@@ -166,9 +166,9 @@ fn send_mail<T: Texts, O: Sink>(
     peers: &mut Vec<ScriptedLinker>,
 ) -> Ended
     requires { peers.old.items ≡ [] }
-    ensures { (search_before search_after : ℕ) → EndsSend result.status (T.told texts.old mail.now)
-        (record { texts_before = T.faults texts.old; texts_after = T.faults texts.new; search_before = search_before; search_after = search_after })
-        (record { told_before = O.told out.old; told_after = O.told out.new; faults_before = O.faults out.old; faults_after = O.faults out.new })
+    ensures { (search_before search_after : ℕ) → EndsSend result.status ((T.seen texts.old).told mail.now)
+        (record { texts_before = (T.seen texts.old).faults; texts_after = (T.seen texts.new).faults; search_before = search_before; search_after = search_after })
+        (record { told_before = (O.seen out.old).told; told_after = (O.seen out.new).told; faults_before = (O.seen out.old).faults; faults_after = (O.seen out.new).faults })
         result.history (all_sessions peers.new.items) }
 {
     match send_mail_text(alloc, mail, texts, PeerReplies::new(), peers) {
@@ -188,11 +188,11 @@ fn run_check<T: Texts, O: Sink, S: Search>(
     out: &mut O,
     search: &mut S,
 ) -> Ended
-    ensures ends { EndsPrinting result.status (IsCheckText (T.told texts.old) (seen_names names.now)) (Stops (T.told texts.old) (seen_names names.now))
-        (record { texts_before = T.faults texts.old; texts_after = T.faults texts.new; search_before = S.faults search.old; search_after = S.faults search.new })
-        (record { told_before = O.told out.old; told_after = O.told out.new; faults_before = O.faults out.old; faults_after = O.faults out.new }) }
+    ensures ends { EndsPrinting result.status (IsCheckText (T.seen texts.old).told (seen_names names.now)) (Stops (T.seen texts.old).told (seen_names names.now))
+        (record { texts_before = (T.seen texts.old).faults; texts_after = (T.seen texts.new).faults; search_before = (S.seen search.old).faults; search_after = (S.seen search.new).faults })
+        (record { told_before = (O.seen out.old).told; told_after = (O.seen out.new).told; faults_before = (O.seen out.old).faults; faults_after = (O.seen out.new).faults }) }
     ensures history { result.history ≡ None }
-    ensures search { S.faults search.old ≤ S.faults search.new }
+    ensures search { (S.seen search.old).faults ≤ (S.seen search.new).faults }
 {
     match check_text(alloc, texts, names, search) {
         Ok(text) => printed(text.as_str(), out),
@@ -209,11 +209,11 @@ fn run_explain<T: Texts, O: Sink, S: Search>(
     search: &mut S,
 ) -> Ended
     requires { IsTrue (is_name (seen_question asked.now).name) }
-    ensures ends { EndsPrinting result.status (IsExplainText (T.told texts.old) (seen_question asked.now)) (Stops (T.told texts.old) (seen_names asked.now.texts))
-        (record { texts_before = T.faults texts.old; texts_after = T.faults texts.new; search_before = S.faults search.old; search_after = S.faults search.new })
-        (record { told_before = O.told out.old; told_after = O.told out.new; faults_before = O.faults out.old; faults_after = O.faults out.new }) }
+    ensures ends { EndsPrinting result.status (IsExplainText (T.seen texts.old).told (seen_question asked.now)) (Stops (T.seen texts.old).told (seen_names asked.now.texts))
+        (record { texts_before = (T.seen texts.old).faults; texts_after = (T.seen texts.new).faults; search_before = (S.seen search.old).faults; search_after = (S.seen search.new).faults })
+        (record { told_before = (O.seen out.old).told; told_after = (O.seen out.new).told; faults_before = (O.seen out.old).faults; faults_after = (O.seen out.new).faults }) }
     ensures history { result.history ≡ None }
-    ensures search { S.faults search.old ≤ S.faults search.new }
+    ensures search { (S.seen search.old).faults ≤ (S.seen search.new).faults }
 {
     match explain_text(alloc, texts, asked, search) {
         Ok(text) => printed(text.as_str(), out),
@@ -224,7 +224,7 @@ fn run_explain<T: Texts, O: Sink, S: Search>(
 /// Writes a text on policies.
 fn printed<O: Sink>(text: &str, out: &mut O) -> Ended
     ensures { Prints result.status result.history text.now
-        (record { told_before = O.told out.old; told_after = O.told out.new; faults_before = O.faults out.old; faults_after = O.faults out.new }) }
+        (record { told_before = (O.seen out.old).told; told_after = (O.seen out.new).told; faults_before = (O.seen out.old).faults; faults_after = (O.seen out.new).faults }) }
 {
     Ended {
         status: text_status(put_all(out, text.as_bytes())),
@@ -236,7 +236,7 @@ fn printed<O: Sink>(text: &str, out: &mut O) -> Ended
 fn refused<O: Sink>(why: Refusal, out: &mut O) -> Ended
     ensures status { result.status ≡ status_of why }
     ensures history { result.history ≡ None }
-    ensures refuses { Refuses (record { told_before = O.told out.old; told_after = O.told out.new; faults_before = O.faults out.old; faults_after = O.faults out.new }) why }
+    ensures refuses { Refuses (record { told_before = (O.seen out.old).told; told_after = (O.seen out.new).told; faults_before = (O.seen out.old).faults; faults_after = (O.seen out.new).faults }) why }
 {
     why.print(out);
     Ended {

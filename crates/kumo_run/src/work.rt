@@ -28,8 +28,8 @@ pub fn send_mail_text<T: Texts>(
     peers: &mut Vec<ScriptedLinker>,
 ) -> Result<History, Refusal>
     requires { peers.old.items ≡ [] }
-    ensures ok { IfOk result (λ h. Works (T.told texts.old mail.now) h (all_sessions peers.new.items)) }
-    ensures err { IfErr result (λ why. HasReason why (T.told texts.old mail.now) (T.faults texts.old) (T.faults texts.new) (all_sessions peers.new.items)) }
+    ensures ok { IfOk result (λ h. Works ((T.seen texts.old).told mail.now) h (all_sessions peers.new.items)) }
+    ensures err { IfErr result (λ why. HasReason why ((T.seen texts.old).told mail.now) (T.seen texts.old).faults (T.seen texts.new).faults (all_sessions peers.new.items)) }
 {
     match read_messages(alloc, texts, mail) {
         Ok(messages) => send(alloc, messages.as_slice(), says, peers),
@@ -43,8 +43,8 @@ fn read_messages<T: Texts>(
     texts: &mut T,
     name: &str,
 ) -> Result<Vec<Message>, Refusal>
-    ensures ok { IfSome (T.told texts.old name.now) (λ text. IfOk result (λ ms. given_by text ≡ mail_gives (messages ms.items))) }
-    ensures err { IfErr result (λ why. IsUnread why (T.told texts.old name.now) (T.faults texts.old) (T.faults texts.new)) }
+    ensures ok { IfSome ((T.seen texts.old).told name.now) (λ text. IfOk result (λ ms. given_by text ≡ mail_gives (messages ms.items))) }
+    ensures err { IfErr result (λ why. IsUnread why ((T.seen texts.old).told name.now) (T.seen texts.old).faults (T.seen texts.new).faults) }
     ensures proper { IfOk result (λ ms. All IsProperMessage ms.items) }
 {
     match read_text(alloc, texts, name, TEXT_LIMIT) {

@@ -1,6 +1,9 @@
 //! A link to a scripted peer.
-ghost use Rattle.std.specs.Prelude.{◌≡◌, ◌≤◌, [], length, take, IfOk, Some, false};
+ghost use Rattle.std.specs.Prelude.{◌≡◌, ◌==◌, ◌<◌, ◌≤◌, [], length, take, IfOk, OnOk, OnErr, MatchResult, Some, false};
+ghost use Rattle.kumo_base.specs.Causes.{HasCause};
+ghost use Rattle.kumo_outside.specs.Devices.{one_more};
 ghost use Rattle.kumo_outside.specs.Sessions.{Opening};
+ghost use Rattle.kumo_outside.specs.Told.{extended};
 ghost use Rattle.scripted_peer.specs.ScriptedPeer.{LinkState};
 
 use crate::peer::Peer;
@@ -105,18 +108,22 @@ impl ScriptedLink {
 }
 
 impl Link for ScriptedLink {
-    ghost opening = { λ l. l.opening };
-
-    ghost sent = { λ l. Some l.sent };
-
-    ghost got = { λ l. Some l.got };
-
-    ghost ended = { λ l. l.ended };
-
-    ghost faults = { λ l. l.faults };
+    ghost seen = { λ l. record { opening = l.opening; sent = Some l.sent; got = Some l.got; ended = l.ended; faults = l.faults } };
 
     #[tactic(auto, unfolding(kumo_outside::specs::Told::extended))]
-    fn send(&mut self, piece: &[u8]) -> Result<usize, Failed> {
+    fn send(&mut self, piece: &[u8]) -> Result<usize, Failed>
+        requires { 0 < length piece.now }
+        ensures taken { IfOk result (λ n. (0 < n) × (n ≤ length piece.now)) }
+        ensures sent { MatchResult result
+            (λ n. Some self.new.sent ≡ extended (Some self.old.sent) (take n piece.now))
+            (λ _. Some self.new.sent ≡ Some self.old.sent) }
+        ensures got { Some self.new.got ≡ Some self.old.got }
+        ensures ended { self.new.ended ≡ false }
+        ensures opening { self.new.opening ≡ self.old.opening }
+        ensures cause { HasCause self.old.faults self.new.faults result }
+        ensures uncounted { OnOk result (self.new.faults ≡ self.old.faults) }
+        ensures counted { OnErr result (self.new.faults ≡ one_more self.old.faults) }
+    {
         self.ended = false;
         match self.peer.hear(piece) {
             Ok(()) => Ok(piece.len()),
@@ -128,7 +135,19 @@ impl Link for ScriptedLink {
     }
 
     #[tactic(auto, unfolding(kumo_outside::specs::Told::extended))]
-    fn recv(&mut self, buffer: &mut [u8]) -> Result<usize, Failed> {
+    fn recv(&mut self, buffer: &mut [u8]) -> Result<usize, Failed>
+        requires { 0 < length buffer.old }
+        ensures bound { IfOk result (λ n. n ≤ length buffer.new) }
+        ensures sent { Some self.new.sent ≡ Some self.old.sent }
+        ensures got { MatchResult result
+            (λ n. Some self.new.got ≡ extended (Some self.old.got) (take n buffer.new))
+            (λ _. Some self.new.got ≡ Some self.old.got) }
+        ensures ended { MatchResult result (λ n. self.new.ended ≡ (n == 0)) (λ _. self.new.ended ≡ false) }
+        ensures opening { self.new.opening ≡ self.old.opening }
+        ensures cause { HasCause self.old.faults self.new.faults result }
+        ensures uncounted { OnOk result (self.new.faults ≡ self.old.faults) }
+        ensures counted { OnErr result (self.new.faults ≡ one_more self.old.faults) }
+    {
         let (_, left) = self.peer.said().split_at(self.given);
         let count = left.len().min(buffer.len());
         let (piece, _) = left.split_at(count);

@@ -1,6 +1,8 @@
 //! A linker whose links are to scripted peers.
-ghost use Rattle.std.specs.Prelude.{◌≡◌, ◌++◌, ◌∷◌, [], length, IfOk, OnErr, Some, false};
-ghost use Rattle.kumo_outside.specs.Sessions.{Opening, fresh};
+ghost use Rattle.std.specs.Prelude.{◌≡◌, ◌++◌, ◌∷◌, [], length, IfOk, OnOk, OnErr, Some, false};
+ghost use Rattle.kumo_base.specs.Causes.{HasCause};
+ghost use Rattle.kumo_outside.specs.Devices.{one_more};
+ghost use Rattle.kumo_outside.specs.Sessions.{Opening, fresh, Opens};
 ghost use Rattle.scripted_peer.specs.ScriptedPeer.{LinkerState, LinkState};
 
 use crate::link::ScriptedLink;
@@ -74,11 +76,16 @@ impl ScriptedLinker {
 impl Linker for ScriptedLinker {
     type Link = ScriptedLink;
 
-    ghost sessions = { λ k. Some k.sessions };
+    ghost seen = { λ k. record { sessions = Some k.sessions; faults = k.faults } };
 
-    ghost faults = { λ k. k.faults };
-
-    fn open(&mut self, host: &str, source: &str) -> Result<ScriptedLink, Failed> {
+    fn open(&mut self, host: &str, source: &str) -> Result<ScriptedLink, Failed>
+        ensures opened { IfOk result (λ link. Opens (Some self.old.sessions) (Some self.new.sessions) host.now source.now
+            (record { opening = link.opening; sent = Some link.sent; got = Some link.got; ended = link.ended; faults = link.faults })) }
+        ensures failed { OnErr result (Some self.new.sessions ≡ Some self.old.sessions) }
+        ensures cause { HasCause self.old.faults self.new.faults result }
+        ensures uncounted { OnOk result (self.new.faults ≡ self.old.faults) }
+        ensures counted { OnErr result (self.new.faults ≡ one_more self.old.faults) }
+    {
         match self.open_link(host, source) {
             Ok(link) => Ok(link),
             Err(_) => {

@@ -16,5 +16,5 @@ returns-in_err-put_all-2-clause-err g c =
 
 pub returns-clause-ok : goal.returns-clause-ok
 returns-clause-ok g c =
-    let first = c.in_ok-put_all.ensures.whole ∙ ap (extended (g.O.Sink.told c.args.out.now)) c.bytes.ensures in
+    let first = c.in_ok-put_all.ensures.whole ∙ ap (extended (g.O.Sink.seen c.args.out.now).told) c.bytes.ensures in
     gathers_none _ _ _ _ _ _ first c.in_ok-put_all-2.ensures.whole c.clear.ensures

@@ -39,6 +39,6 @@ returns-in_err-put_all-clause-err g c =
 
 pub returns-clause-ok : goal.returns-clause-ok
 returns-clause-ok g c =
-    let put = c.in_ok-put_all.ensures.whole ∙ ap (extended (g.O.Sink.told c.loop-entry.out)) c.bytes.ensures in
+    let put = c.in_ok-put_all.ensures.whole ∙ ap (extended (g.O.Sink.seen c.loop-entry.out).told) c.bytes.ensures in
     let all = log_text_of_all _ _ _ c.entries-entry-items.ensures c.loop-entry-test.false in
-    gathers_put _ _ _ _ _ c.loop-entry.invariant.gathered put ∙ ap (extended (g.O.Sink.told c.args.out.now)) all
+    gathers_put _ _ _ _ _ c.loop-entry.invariant.gathered put ∙ ap (extended (g.O.Sink.seen c.args.out.now).told) all

@@ -57,5 +57,5 @@ returns-clause-told g c =
     let new = c.converse-worked.new.link in
     connects c.args.message.now _ _ (c.as_str.ensures ∙ ap (λ (x : Message). x.name.domain) c.message.view_is) refl (g.K.Link.Link.opening link) (g.K.Link.Link.opening new) c.converse-worked.ensures.opening
     (g.K.Link.Link.sent link) (g.K.Link.Link.got link) (g.K.Link.Link.sent new) (g.K.Link.Link.got new) (g.K.Link.Link.ended link) (g.K.Link.Link.ended new)
-    (g.K.Link.Link.faults link) (g.K.Link.Link.faults new) (g.K.Linker.sessions c.open.new.self) (g.K.Linker.sessions c.done.new.self)
-    (g.K.Linker.sessions c.args.linker.now) c.converse-worked.result c.converse-worked.new.registry c.in-Ok.ensures.opened c.done.ensures.session c.converse-worked.ensures.told
+    (g.K.Link.Link.faults link) (g.K.Link.Link.faults new) (g.K.Linker.seen c.open.new.self).sessions (g.K.Linker.seen c.done.new.self).sessions
+    (g.K.Linker.seen c.args.linker.now).sessions c.converse-worked.result c.converse-worked.new.registry c.in-Ok.ensures.opened c.done.ensures.session c.converse-worked.ensures.told

@@ -5,11 +5,11 @@ use Rattle.kumo_run.proofs.printing.check_text.Goals as goal
 
 pub returns-in-Err-clause-err : goal.returns-in-Err-clause-err
 returns-in-Err-clause-err g c =
-    text_cause (Stops (g.T.Texts.told c.args.texts.now) (seen_names c.args.names.now))
+    text_cause (Stops (g.T.Texts.seen c.args.texts.now).told (seen_names c.args.names.now))
     (record {
-      texts_before = g.T.Texts.faults c.args.texts.now;
-      texts_after = g.T.Texts.faults c.load_policy.new.texts;
-      search_before = g.S.Search.faults c.args.search.now;
-      search_after = g.S.Search.faults c.load_policy.new.search;
+      texts_before = (g.T.Texts.seen c.args.texts.now).faults;
+      texts_after = (g.T.Texts.seen c.load_policy.new.texts).faults;
+      search_before = (g.S.Search.seen c.args.search.now).faults;
+      search_after = (g.S.Search.seen c.load_policy.new.search).faults;
     })
     c.in-Err.fault c.refusal_of_load.result c.refusal_of_load.ensures c.in-Err.ensures.err

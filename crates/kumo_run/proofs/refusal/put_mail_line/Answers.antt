@@ -22,4 +22,4 @@ returns-in_err-put_three-clause-part g c =
 pub returns-clause-whole : goal.returns-clause-whole
 returns-clause-whole g c =
     c.in_ok-put_three.ensures.whole
-    ∙ ap (λ (text : List ℕ). extended (g.O.Sink.told c.args.out.now) text) (line_is _ _ c.args.line c.args.why c.format.ensures.text c.end_of_line.ensures)
+    ∙ ap (λ (text : List ℕ). extended (g.O.Sink.seen c.args.out.now).told text) (line_is _ _ c.args.line c.args.why c.format.ensures.text c.end_of_line.ensures)

@@ -42,10 +42,10 @@ as_read told read same e h = rw e h
 
 pub returns-in-Ok-clause-ok : goal.returns-in-Ok-clause-ok
 returns-in-Ok-clause-ok g c =
-    let told = g.T.Texts.told c.args.texts.now c.args.name.now in
+    let told = (g.T.Texts.seen c.args.texts.now).told c.args.name.now in
     read_ok _ told c.as_slice.result.now c.messages_in.result (as_read told _ _ c.as_slice.ensures c.in-Ok.ensures.text) c.messages_in.ensures.ok
 
 pub returns-in-Ok-clause-err : goal.returns-in-Ok-clause-err
 returns-in-Ok-clause-err g c =
-    let told = g.T.Texts.told c.args.texts.now c.args.name.now in
+    let told = (g.T.Texts.seen c.args.texts.now).told c.args.name.now in
     read_err told c.as_slice.result.now _ _ c.messages_in.result (as_read told _ _ c.as_slice.ensures c.in-Ok.ensures.text) c.messages_in.ensures.err
