@@ -4,7 +4,7 @@ use Rattle.std.proofs.lemmas.Bool.{false≢true}
 use Rattle.std.proofs.lemmas.Option.{same_Some}
 use Rattle.kumo_base.specs.Causes.{Rose}
 use Rattle.kumo_outside.specs.Told.{extended, ExtendsByFront, TakesFront, TakesProperFront}
-use Rattle.kumo_outside.specs.Sessions.{Opening}
+use Rattle.kumo_outside.specs.Sessions.{LinkSeen, session_of}
 use Rattle.queue_name.specs.declared.message.Message.{Message}
 use Rattle.kumo_outside.specs.declared.session.Session.{Session}
 use Rattle.smtp_reply.specs.declared.reply.Reply.{Reply}
@@ -15,8 +15,9 @@ use Rattle.smtp_dialogue.specs.Transcript.{Spoken, Standing, alive, over, waitin
 use Rattle.smtp_dialogue.specs.Speaks.{Side, side, IsWhole, IsCutShort, Speaks, with_more, IsStable}
 use Rattle.smtp_dialogue.proofs.Stability.{parts_stable, greeting_stable, attempts_stable}
 use Rattle.smtp_dialogue.proofs.Following.{followed}
-use Rattle.kumo_run.specs.Delivery.{localhost, up_to_quit, IsDeliveredBy, IsNotDelivered}
-use Rattle.kumo_run.specs.Working.{IsFreshLink, session_of, Tells}
+use Rattle.policy_core.specs.Limits.{localhost}
+use Rattle.kumo_run.specs.Delivery.{up_to_quit, IsDeliveredBy, IsNotDelivered}
+use Rattle.kumo_run.specs.Working.{IsFreshLink, Tells}
 
 -- ---- a part that left the link not alive is all that the parts behind it come to
 
@@ -37,13 +38,13 @@ sent_first waiting first next = ([], sym (append-nil first.sent))
 -- ---- what is said of the bytes sent and the end, whatever came of the messages
 
 pub record Shows (t : Spoken) (old new : Side) : Type 0 where
-  pub front : TakesFront old.sent new.sent t.sent
-  pub whole : (Rose old.faults new.faults → ⊥) → new.sent ≡ extended old.sent t.sent
-  pub ended : (Rose old.faults new.faults → ⊥) → t.standing ≡ waiting → new.ended ≡ true
+  pub front : TakesFront old.link.sent new.link.sent t.sent
+  pub whole : (Rose old.link.faults new.link.faults → ⊥) → new.link.sent ≡ extended old.link.sent t.sent
+  pub ended : (Rose old.link.faults new.link.faults → ⊥) → t.standing ≡ waiting → new.link.ended ≡ true
 
 shows_whole : (t : Spoken) (old new : Side) (outcomes : List Outcome) (a : Bool) → IsWhole t old new outcomes a → Shows t old new
 shows_whole t old new outcomes a w = record {
-  front = TakesFront-whole old.sent new.sent t.sent w.sent;
+  front = TakesFront-whole old.link.sent new.link.sent t.sent w.sent;
   whole = λ calm. w.sent;
   ended = λ calm waits. w.waited waits;
 }
@@ -66,7 +67,7 @@ shows_cut_halted : (first : Spoken) (next : List ℕ → Spoken) (old new : Side
 shows_cut_halted first next old new f outcomes c =
     let behind = sent_first first.standing first next in
     record {
-      front = rw behind.1 (TakesFront-more old.sent new.sent first.sent behind.0 c.front);
+      front = rw behind.1 (TakesFront-more old.link.sent new.link.sent first.sent behind.0 c.front);
       whole = λ calm. absurd (calm c.rose);
       ended = λ calm waits. absurd (calm c.rose);
     }
@@ -89,10 +90,10 @@ halts_cut first next old new c =
       rose = c.rose;
       alive_is = c.alive_is;
       not_ended = c.not_ended;
-      front = rw behind.1 (TakesFront-more old.sent new.sent first.sent behind.0 c.front);
+      front = rw behind.1 (TakesFront-more old.link.sent new.link.sent first.sent behind.0 c.front);
       short = elim c.short [
         | inl waits ↦ inl (ap (λ (t : Spoken). t.standing) (waiting_stops first.standing first next waits) ∙ waits)
-        | inr part ↦ inr (rw behind.1 (TakesProperFront-more old.sent new.sent first.sent behind.0 part))
+        | inr part ↦ inr (rw behind.1 (TakesProperFront-more old.link.sent new.link.sent first.sent behind.0 part))
       ];
       outcomes_are = inl refl;
     }
@@ -142,26 +143,26 @@ speaks_before_parting m s0 s1 s2 f outcomes a x y =
 calm_at_zero : (f n : ℕ) → f ≡ 0 → n ≡ 0 → Rose f n → ⊥
 calm_at_zero f n e z r = omega arith
 
-module _ (m : Message) (o : Opening) (s g : Option (List ℕ)) (e : Bool) (f : ℕ) (fresh : IsFreshLink s g f) where
+module _ (m : Message) (k : LinkSeen) (fresh : IsFreshLink k) where
   told_bytes : (new : Option (List ℕ)) (old : Option (List ℕ)) (bytes : List ℕ) → old ≡ Some [] → new ≡ extended old bytes → new ≡ Some bytes
   told_bytes new old bytes at added = added ∙ ap (λ t. extended t bytes) at ∙ extended-told [] bytes
 
-  tells : (new : Side) (more : List ℕ) (P : Session → Type 0) → new.got ≡ extended g more
-      → Shows (transcript localhost (m ∷ []) more) (side s g e f []) new
-      → ((sent : List ℕ) → new.sent ≡ Some sent → P (session_of o sent more new.ended new.faults))
-      → Tells m o new.sent new.got new.ended new.faults P
+  tells : (new : Side) (more : List ℕ) (P : Session → Type 0) → new.link.got ≡ extended k.got more
+      → Shows (transcript localhost (m ∷ []) more) (side k []) new
+      → ((sent : List ℕ) → new.link.sent ≡ Some sent → P (session_of new.link sent more))
+      → Tells m new.link P
   tells new more P grows shown decided =
       let front = shown.front in
-      let sent_is : new.sent ≡ Some front.0 = told_bytes new.sent s front.0 fresh.sent_is front.2.added in
+      let sent_is : new.link.sent ≡ Some front.0 = told_bytes new.link.sent k.sent front.0 fresh.sent_is front.2.added in
       record {
         sent_bytes = front.0;
         got_bytes = more;
         sent_is = sent_is;
-        got_is = told_bytes new.got g more fresh.got_is grows;
+        got_is = told_bytes new.link.got k.got more fresh.got_is grows;
         transcript = record {
           front = (front.1, front.2.whole);
-          whole = λ calm. same_Some _ _ (sym sent_is ∙ told_bytes new.sent s _ fresh.sent_is (shown.whole (calm_at_zero f new.faults fresh.faults_are calm)));
-          ended = λ calm waits. shown.ended (calm_at_zero f new.faults fresh.faults_are calm) waits;
+          whole = λ calm. same_Some _ _ (sym sent_is ∙ told_bytes new.link.sent k.sent _ fresh.sent_is (shown.whole (calm_at_zero k.faults new.link.faults fresh.faults_are calm)));
+          ended = λ calm waits. shown.ended (calm_at_zero k.faults new.link.faults fresh.faults_are calm) waits;
         };
         decided = decided front.0 sent_is;
       }
@@ -172,44 +173,44 @@ module _ (m : Message) (o : Opening) (s g : Option (List ℕ)) (e : Bool) (f : �
       let la = ap length a in let lb = ap length b in let lc = ap length c in
       omega (arith, simp length-append at la, simp length-append at lb, lc)
 
-  undelivered_whole : (t : Spoken) (new : Side) (outcomes : List Outcome) → IsWhole t (side s g e f []) new outcomes false → t.standing ≡ alive → ⊥
+  undelivered_whole : (t : Spoken) (new : Side) (outcomes : List Outcome) → IsWhole t (side k []) new outcomes false → t.standing ≡ alive → ⊥
   undelivered_whole t new outcomes w through = false≢true (w.alive_is ∙ ap is_alive through)
 
-  undelivered_cut : (t : Spoken) (new : Side) (at_fault outcomes : List Outcome) (sent : List ℕ) → IsCutShort t (side s g e f []) new at_fault outcomes false
-      → new.sent ≡ Some sent → t.standing ≡ alive → IsFront t.sent sent → ⊥
+  undelivered_cut : (t : Spoken) (new : Side) (at_fault outcomes : List Outcome) (sent : List ℕ) → IsCutShort t (side k []) new at_fault outcomes false
+      → new.link.sent ≡ Some sent → t.standing ≡ alive → IsFront t.sent sent → ⊥
   undelivered_cut t new at_fault outcomes sent c is through front =
       elim c.short [
         | inl waits ↦ absurd cc
         | inr part ↦ longer_front part.0 part.1 front.0 t.sent sent part.2.whole front.1
-            (same_Some _ _ (sym is ∙ told_bytes new.sent s part.0 fresh.sent_is part.2.added)) part.3
+            (same_Some _ _ (sym is ∙ told_bytes new.link.sent k.sent part.0 fresh.sent_is part.2.added)) part.3
       ]
 
-  halted_undelivered : (new : Side) (at_fault outcomes : List Outcome) (x : Speaks (before_parting localhost (m ∷ [])) (side s g e f []) new at_fault outcomes false)
-      (sent : List ℕ) → new.sent ≡ Some sent → IsNotDelivered m (session_of o sent x.more new.ended new.faults)
+  halted_undelivered : (new : Side) (at_fault outcomes : List Outcome) (x : Speaks (before_parting localhost (m ∷ [])) (side k []) new at_fault outcomes false)
+      (sent : List ℕ) → new.link.sent ≡ Some sent → IsNotDelivered m (session_of new.link sent x.more)
   halted_undelivered new at_fault outcomes x sent is reply d =
       elim x.spoke [
         | inl w ↦ undelivered_whole (before_parting localhost (m ∷ []) x.more) new outcomes w d.through
         | inr c ↦ undelivered_cut (before_parting localhost (m ∷ []) x.more) new at_fault outcomes sent c is d.through d.sent
       ]
 
-  tells_halted : (new : Side) (at_fault outcomes : List Outcome) → Speaks (before_parting localhost (m ∷ [])) (side s g e f []) new at_fault outcomes false
-      → Tells m o new.sent new.got new.ended new.faults (IsNotDelivered m)
+  tells_halted : (new : Side) (at_fault outcomes : List Outcome) → Speaks (before_parting localhost (m ∷ [])) (side k []) new at_fault outcomes false
+      → Tells m new.link (IsNotDelivered m)
   tells_halted new at_fault outcomes x =
       tells new x.more (IsNotDelivered m) x.grows
-      (shows_halted (before_parting localhost (m ∷ [])) parting (side s g e f []) new at_fault outcomes x)
+      (shows_halted (before_parting localhost (m ∷ [])) parting (side k []) new at_fault outcomes x)
       (halted_undelivered new at_fault outcomes x)
 
   -- a receiver that did not greet
-  pub tells_refused : (new : Side) → Speaks (greeting localhost) (side s g e f []) new [] [] false
-      → Tells m o new.sent new.got new.ended new.faults (IsNotDelivered m)
-  tells_refused new x = tells_halted new [] [] (halts (greeting localhost) (attempts (m ∷ [])) (side s g e f []) new x)
+  pub tells_refused : (new : Side) → Speaks (greeting localhost) (side k []) new [] [] false
+      → Tells m new.link (IsNotDelivered m)
+  tells_refused new x = tells_halted new [] [] (halts (greeting localhost) (attempts (m ∷ [])) (side k []) new x)
 
   -- an attempt that left the link not alive
-  pub tells_lost : (mid new : Side) (at_fault outcomes : List Outcome) → Speaks (greeting localhost) (side s g e f []) mid [] [] true
+  pub tells_lost : (mid new : Side) (at_fault outcomes : List Outcome) → Speaks (greeting localhost) (side k []) mid [] [] true
       → Speaks (attempted m.sender m.recipient m.body) mid new at_fault outcomes false
-      → Tells m o new.sent new.got new.ended new.faults (IsNotDelivered m)
+      → Tells m new.link (IsNotDelivered m)
   tells_lost mid new at_fault outcomes x y =
-      tells_halted new at_fault outcomes (speaks_before_parting m (side s g e f []) mid new at_fault outcomes false x y)
+      tells_halted new at_fault outcomes (speaks_before_parting m (side k []) mid new at_fault outcomes false x y)
 
   before_stable : IsStable (before_parting localhost (m ∷ []))
   before_stable = parts_stable (greeting localhost) (attempts (m ∷ [])) (greeting_stable localhost) (attempts_stable (m ∷ []))
@@ -223,9 +224,9 @@ module _ (m : Message) (o : Opening) (s g : Option (List ℕ)) (e : Bool) (f : �
   abbrev Settles : List ℕ → Side → Outcome → Type 0
   Settles got at decided =
       let t = before_parting localhost (m ∷ []) got in
-      (t.standing ≡ alive) × (t.outcomes ≡ decided ∷ []) × (at.sent ≡ extended s t.sent)
+      (t.standing ≡ alive) × (t.outcomes ≡ decided ∷ []) × (at.link.sent ≡ extended k.sent t.sent)
 
-  settles_alive : (at : Side) (at_fault : List Outcome) (decided : Outcome) (x : Speaks (before_parting localhost (m ∷ [])) (side s g e f []) at at_fault (decided ∷ []) true) → Settles x.more at decided
+  settles_alive : (at : Side) (at_fault : List Outcome) (decided : Outcome) (x : Speaks (before_parting localhost (m ∷ [])) (side k []) at at_fault (decided ∷ []) true) → Settles x.more at decided
   settles_alive at at_fault decided x =
       elim x.spoke [
         | inl w ↦ (alive_standing _ w.alive_is, sym w.outcomes_are, w.sent)
@@ -240,47 +241,47 @@ module _ (m : Message) (o : Opening) (s g : Option (List ℕ)) (e : Bool) (f : �
   first_outcome a b h = cc
 
   -- what a session that went on to QUIT tells of the attempt
-  up_to_quit_is : (x y sent behind : List ℕ) (at new : Side) (decided : Outcome) → Settles x at decided → new.sent ≡ extended at.sent behind → new.sent ≡ Some sent
+  up_to_quit_is : (x y sent behind : List ℕ) (at new : Side) (decided : Outcome) → Settles x at decided → new.link.sent ≡ extended at.link.sent behind → new.link.sent ≡ Some sent
       → let t = before_parting localhost (m ∷ []) (x ++ y) in (t.standing ≡ alive) × (t.outcomes ≡ decided ∷ []) × IsFront t.sent sent
   up_to_quit_is x y sent behind at new decided settled added is =
       let t : Spoken = before_parting localhost (m ∷ []) x in
-      let at_sent : at.sent ≡ Some t.sent = told_bytes at.sent s t.sent fresh.sent_is settled.2 in
+      let at_sent : at.link.sent ≡ Some t.sent = told_bytes at.link.sent k.sent t.sent fresh.sent_is settled.2 in
       let whole : t.sent ++ behind ≡ sent = same_Some _ _ (sym (added ∙ ap (λ b. extended b behind) at_sent ∙ extended-told t.sent behind) ∙ is) in
       rw (same_before x y settled.0) (settled.0, settled.1, (behind, whole))
 
   -- an attempt that left the link alive, and QUIT
   module _ (at new : Side) (at_fault : List Outcome) (decided : Outcome)
-      (x : Speaks (before_parting localhost (m ∷ [])) (side s g e f []) at at_fault (decided ∷ []) true)
+      (x : Speaks (before_parting localhost (m ∷ [])) (side k []) at at_fault (decided ∷ []) true)
       (y : Speaks parting at new [] [] false) where
-    both : Speaks (transcript localhost (m ∷ [])) (side s g e f []) new (decided ∷ []) (decided ∷ []) false
+    both : Speaks (transcript localhost (m ∷ [])) (side k []) new (decided ∷ []) (decided ∷ []) false
     both = followed {first = before_parting localhost (m ∷ [])} {second = parting} before_stable x y
 
     got_both : both.more ≡ x.more ++ y.more
     got_both =
-        let at_got : at.got ≡ Some x.more = told_bytes at.got g x.more fresh.got_is x.grows in
-        let new_got : new.got ≡ Some (x.more ++ y.more) = y.grows ∙ ap (λ b. extended b y.more) at_got ∙ extended-told x.more y.more in
-        same_Some _ _ (sym (told_bytes new.got g both.more fresh.got_is both.grows) ∙ new_got)
+        let at_got : at.link.got ≡ Some x.more = told_bytes at.link.got k.got x.more fresh.got_is x.grows in
+        let new_got : new.link.got ≡ Some (x.more ++ y.more) = y.grows ∙ ap (λ b. extended b y.more) at_got ∙ extended-told x.more y.more in
+        same_Some _ _ (sym (told_bytes new.link.got k.got both.more fresh.got_is both.grows) ∙ new_got)
 
-    quit_front : TakesFront at.sent new.sent (parting (at.unread ++ y.more)).sent
+    quit_front : TakesFront at.link.sent new.link.sent (parting (at.unread ++ y.more)).sent
     quit_front = (shows parting at new [] [] false y).front
 
-    told_up_to_quit : (sent : List ℕ) → new.sent ≡ Some sent
+    told_up_to_quit : (sent : List ℕ) → new.link.sent ≡ Some sent
         → let t = before_parting localhost (m ∷ []) both.more in (t.standing ≡ alive) × (t.outcomes ≡ decided ∷ []) × IsFront t.sent sent
     told_up_to_quit sent is =
         rw got_both (up_to_quit_is x.more y.more sent quit_front.0 at new decided (settles_alive at at_fault decided x) quit_front.2.added is)
 
-    tells_parted : (P : Session → Type 0) → ((sent : List ℕ) → new.sent ≡ Some sent → P (session_of o sent both.more new.ended new.faults))
-        → Tells m o new.sent new.got new.ended new.faults P
-    tells_parted P decides = tells new both.more P both.grows (shows (transcript localhost (m ∷ [])) (side s g e f []) new (decided ∷ []) (decided ∷ []) false both) decides
+    tells_parted : (P : Session → Type 0) → ((sent : List ℕ) → new.link.sent ≡ Some sent → P (session_of new.link sent both.more))
+        → Tells m new.link P
+    tells_parted P decides = tells new both.more P both.grows (shows (transcript localhost (m ∷ [])) (side k []) new (decided ∷ []) (decided ∷ []) false both) decides
 
     -- a delivery
-    pub tells_delivered : (reply : Reply) → decided ≡ Delivered reply → Tells m o new.sent new.got new.ended new.faults (IsDeliveredBy m reply)
+    pub tells_delivered : (reply : Reply) → decided ≡ Delivered reply → Tells m new.link (IsDeliveredBy m reply)
     tells_delivered reply is =
         tells_parted (IsDeliveredBy m reply) (λ sent told.
         let up = told_up_to_quit sent told in
         record { through = up.0; outcome = up.1 ∙ ap (λ (d : Outcome). d ∷ []) is; sent = up.2 })
 
     -- another outcome
-    pub tells_undelivered : ((reply : Reply) → decided ≡ Delivered reply → ⊥) → Tells m o new.sent new.got new.ended new.faults (IsNotDelivered m)
+    pub tells_undelivered : ((reply : Reply) → decided ≡ Delivered reply → ⊥) → Tells m new.link (IsNotDelivered m)
     tells_undelivered other =
         tells_parted (IsNotDelivered m) (λ sent told reply d. other reply (first_outcome _ _ (sym (told_up_to_quit sent told).1 ∙ d.outcome)))

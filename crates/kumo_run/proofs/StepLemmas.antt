@@ -9,7 +9,7 @@ use Rattle.history_core.specs.declared.entry.Entry.{Entry}
 use Rattle.history_core.specs.declared.entry.Event.TheVariants as event
 use Rattle.history_core.specs.declared.entry.Next.TheVariants.{Settled}
 use Rattle.history_core.specs.declared.entry.Cause.TheVariants.{Empty}
-use Rattle.history_core.specs.History.{unspecified}
+use Rattle.policy_core.specs.Limits.{unspecified}
 use Rattle.history_core.specs.Legal.{MayFollow}
 use Rattle.kumo_run.specs.Steps.{entry, path_to, accepted, promoted, opened, begun, ended, closed, stopped}
 

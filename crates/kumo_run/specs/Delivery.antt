@@ -4,12 +4,8 @@ use Rattle.queue_name.specs.declared.message.Message.{Message}
 use Rattle.kumo_outside.specs.declared.session.Session.{Session}
 use Rattle.smtp_reply.specs.declared.reply.Reply.{Reply}
 use Rattle.smtp_reply.specs.declared.reply.Outcome.TheVariants.{Delivered}
-use Rattle.history_core.specs.History.{unspecified}
+use Rattle.policy_core.specs.Limits.{unspecified, localhost}
 use Rattle.smtp_dialogue.specs.Transcript.{Spoken, alive, before_parting, IsFront, IsTranscript}
-
--- the name that a source without one of its own gives in EHLO
-abbrev pub localhost : List ℕ
-localhost = codes "localhost"
 
 -- the greeting and the attempt, for the bytes that the session got
 abbrev pub up_to_quit : Message → Session → Spoken

@@ -8,14 +8,15 @@ use Rattle.history_core.specs.declared.entry.Event.{Event}
 use Rattle.history_core.specs.declared.entry.Event.TheVariants as event
 use Rattle.history_core.specs.declared.entry.Next.TheVariants.{Settled}
 use Rattle.history_core.specs.declared.entry.Cause.TheVariants.{Empty}
-use Rattle.history_core.specs.History.{unspecified}
+use Rattle.policy_core.specs.Limits.{unspecified}
+use Rattle.policy_core.specs.PathTables.{path_text}
 
 abbrev pub entry : Event → Entry
 entry what = record { at = 0; who = 0; what = what }
 
 -- the path of the message from the source `unspecified`
 abbrev pub path_to : Message → List ℕ
-path_to m = unspecified ++ codes "->" ++ m.name.domain
+path_to m = path_text unspecified m.name.domain
 
 abbrev pub accepted : Message → List Entry
 accepted m = entry (event.Accepted m) ∷ []

@@ -1,6 +1,6 @@
 -- What the worker does with one message over one link.
 use Rattle.std.specs.Prelude.{◌≡◌, ℕ, List, [], ◌∷◌, ◌++◌, Bool, Option, Some, Result, Ok, Err, ⊤}
-use Rattle.kumo_outside.specs.Sessions.{Opening}
+use Rattle.kumo_outside.specs.Sessions.{LinkSeen, session_of}
 use Rattle.queue_name.specs.declared.message.Message.{Message}
 use Rattle.kumo_outside.specs.declared.session.Session.{Session}
 use Rattle.smtp_reply.specs.declared.reply.Reply.{Reply}
@@ -11,35 +11,30 @@ use Rattle.smtp_dialogue.specs.Transcript.{IsTranscript}
 use Rattle.kumo_run.specs.declared.dispatcher.WorkFault.{WorkFault}
 use Rattle.kumo_run.specs.declared.dispatcher.WorkFault.TheVariants.{NotOpened, NotDelivered, Memory}
 use Rattle.kumo_run.specs.Steps.{closed}
-use Rattle.kumo_run.specs.Delivery.{localhost, IsDeliveredBy, IsNotDelivered, IsSessionOf}
+use Rattle.policy_core.specs.Limits.{localhost}
+use Rattle.kumo_run.specs.Delivery.{IsDeliveredBy, IsNotDelivered, IsSessionOf}
 
 -- a link that was just opened
-pub record IsFreshLink (sent got : Option (List ℕ)) (faults : ℕ) : Type 0 where
-  pub sent_is : sent ≡ Some []
-  pub got_is : got ≡ Some []
-  pub faults_are : faults ≡ 0
-
--- the session that a link tells
-abbrev pub session_of : Opening → List ℕ → List ℕ → Bool → ℕ → Session
-session_of o sent got ended faults =
-    record { host = o.host; source = o.source; sent = sent; got = got; ended = ended; faults = faults; uses = o.uses }
+pub record IsFreshLink (link : LinkSeen) : Type 0 where
+  pub sent_is : link.sent ≡ Some []
+  pub got_is : link.got ≡ Some []
+  pub faults_are : link.faults ≡ 0
 
 -- what a link that tells its bytes tells after the work on it
-pub record Tells (m : Message) (o : Opening) (sent got : Option (List ℕ)) (ended : Bool) (faults : ℕ) (P : Session → Type 0) : Type 0 where
+pub record Tells (m : Message) (link : LinkSeen) (P : Session → Type 0) : Type 0 where
   pub sent_bytes : List ℕ
   pub got_bytes : List ℕ
-  pub sent_is : sent ≡ Some sent_bytes
-  pub got_is : got ≡ Some got_bytes
-  pub transcript : IsTranscript localhost (m ∷ []) (session_of o sent_bytes got_bytes ended faults)
-  pub decided : P (session_of o sent_bytes got_bytes ended faults)
+  pub sent_is : link.sent ≡ Some sent_bytes
+  pub got_is : link.got ≡ Some got_bytes
+  pub transcript : IsTranscript localhost (m ∷ []) (session_of link sent_bytes got_bytes)
+  pub decided : P (session_of link sent_bytes got_bytes)
 
 -- by the answer: the message was delivered in the session that the link tells, as the history then says, or was not
-abbrev pub Converses : {T : Type 0} → Message → Opening → Option (List ℕ) → Option (List ℕ) → Bool → ℕ → Result T WorkFault → List Entry → Type 0
-Converses m o sent got ended faults (Ok x) h =
-    Tells m o sent got ended faults (λ s. (reply : Reply) × (h ≡ closed m reply) × IsDeliveredBy m reply s)
-Converses m o sent got ended faults (Err NotOpened) h = ⊤
-Converses m o sent got ended faults (Err NotDelivered) h = Tells m o sent got ended faults (IsNotDelivered m)
-Converses m o sent got ended faults (Err Memory) h = ⊤
+abbrev pub Converses : {T : Type 0} → Message → LinkSeen → Result T WorkFault → List Entry → Type 0
+Converses m link (Ok x) h = Tells m link (λ s. (reply : Reply) × (h ≡ closed m reply) × IsDeliveredBy m reply s)
+Converses m link (Err NotOpened) h = ⊤
+Converses m link (Err NotDelivered) h = Tells m link (IsNotDelivered m)
+Converses m link (Err Memory) h = ⊤
 
 -- by the answer: the outcome was the delivery that the history says, or another; and QUIT was spoken
 abbrev pub Parts : {T : Type 0} → Message → Outcome → Result T WorkFault → List Entry → Type 0 → Type 0

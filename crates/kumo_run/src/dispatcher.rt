@@ -2,9 +2,11 @@
 //!
 //! Before each step on the link it takes a turn at the registry, which says what may be done. In the final layout it is
 //! a crate of its own.
-ghost use Rattle.std.specs.Prelude.{◌≡◌, [], ◌++◌, false, codes, IfOk, IfSome};
+ghost use Rattle.std.specs.Prelude.{◌≡◌, [], false, IfOk, IfSome};
 ghost use Rattle.kumo_base.specs.Causes.{Rose};
 ghost use Rattle.queue_name.specs.Message.{IsProperMessage};
+ghost use Rattle.policy_core.specs.Limits.{unspecified};
+ghost use Rattle.policy_core.specs.PathTables.{path_text};
 ghost use Rattle.smtp_reply.specs.ReplyText.{IsProperOutcome};
 ghost use Rattle.smtp_dialogue.specs.Transcript.{parting};
 ghost use Rattle.smtp_dialogue.specs.Speaks.{Speaks, side};
@@ -14,16 +16,11 @@ ghost use Rattle.kumo_run.specs.Working.{IsFreshLink, Converses, Parts, Connects
 use crate::registry::Registry;
 use kumo_base::{Memory, Room, Text};
 use kumo_outside::{Link, Linker};
+use policy_core::{DEFAULT_EHLO, UNSPECIFIED};
 use queue_name::Message;
 use smtp_dialogue::{Greeted, Scratch, attempt, farewell, greet};
 use smtp_reply::Outcome;
 use std::alloc::Global;
-
-/// The one source that is there without a sources file.
-const SOURCE: &str = "unspecified";
-
-/// What such a source says in EHLO.
-const EHLO: &str = "localhost";
 
 /// The number of the first connection, and so far the only one.
 const CONNECTION: u64 = 1;
@@ -82,7 +79,7 @@ fn connect<K: Linker>(
     ensures told { IfSome (K.seen linker.old).sessions (λ before. Connects message.now result registry.new (K.seen linker.new).sessions before) }
     ensures fault { result ≡ Err WorkFault.NotOpened → Rose (K.seen linker.old).faults (K.seen linker.new).faults }
 {
-    let mut link = match linker.open(message.name.domain.as_str(), SOURCE) {
+    let mut link = match linker.open(message.name.domain.as_str(), UNSPECIFIED) {
         Ok(link) => link,
         Err(_) => return Err(WorkFault::NotOpened),
     };
@@ -96,18 +93,18 @@ fn ready(alloc: Global, message: &Message) -> Result<Registry, Memory>
     requires { IsProperMessage message.now }
     ensures { IfOk result (λ registry. registry ≡ promoted message.now) }
 {
-    let source = Text::of(alloc, SOURCE)?;
+    let source = Text::of(alloc, UNSPECIFIED)?;
     let mut registry = Registry::new(alloc);
     registry.accept(message.copy(alloc)?)?;
     registry.promote(message.id, source)?;
     Ok(registry)
 }
 
-/// The text of the path to a domain: the source, `->` and the site.
+/// The text of the path to a domain, which is its own site.
 fn path_text(alloc: Global, domain: &str) -> Result<Text, Memory>
-    ensures { IfOk result (λ path. path ≡ codes "unspecified->" ++ domain.now) }
+    ensures { IfOk result (λ path. path ≡ path_text unspecified domain.now) }
 {
-    let mut path = Text::of(alloc, SOURCE)?;
+    let mut path = Text::of(alloc, UNSPECIFIED)?;
     path.push_str("->")?;
     path.push_str(domain)?;
     Ok(path)
@@ -123,11 +120,11 @@ fn converse<L: Link>(
 ) -> Result<(), WorkFault>
     requires history { registry.old ≡ opened message.now }
     requires room { room ≡ [] }
-    ensures opening { L.opening link.new ≡ L.opening link.old }
-    ensures told { IsFreshLink (L.sent link.old) (L.got link.old) (L.faults link.old) → Converses message.now (L.opening link.new) (L.sent link.new) (L.got link.new) (L.ended link.new) (L.faults link.new) result registry.new }
+    ensures opening { (L.seen link.new).opening ≡ (L.seen link.old).opening }
+    ensures told { IsFreshLink (L.seen link.old) → Converses message.now (L.seen link.new) result registry.new }
     ensures fault { result ≡ Err WorkFault.NotOpened → ⊥ }
 {
-    match greet(link, EHLO, scratch) {
+    match greet(link, DEFAULT_EHLO, scratch) {
         Greeted::Refused => return Err(WorkFault::NotDelivered),
         Greeted::Ready => (),
     }
@@ -156,8 +153,8 @@ fn part<L: Link>(
 ) -> Result<(), WorkFault>
     requires history { registry.old ≡ begun message.now }
     requires outcome { IsProperOutcome outcome }
-    ensures opening { L.opening link.new ≡ L.opening link.old }
-    ensures spoken { Parts message.now outcome result registry.new (Speaks parting (side (L.sent link.old) (L.got link.old) (L.ended link.old) (L.faults link.old) scratch.old) (side (L.sent link.new) (L.got link.new) (L.ended link.new) (L.faults link.new) scratch.new) [] [] false) }
+    ensures opening { (L.seen link.new).opening ≡ (L.seen link.old).opening }
+    ensures spoken { Parts message.now outcome result registry.new (Speaks parting (side (L.seen link.old) scratch.old) (side (L.seen link.new) scratch.new) [] [] false) }
 {
     match outcome {
         Outcome::Delivered(reply) => {

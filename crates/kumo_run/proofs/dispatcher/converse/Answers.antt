@@ -1,5 +1,5 @@
-use Rattle.std.proofs.Common.{Option, ◌≡◌, ℕ, List, [], ◌∷◌, Result, Ok, Err, Bool, true, false, not, refl}
-use Rattle.kumo_outside.specs.Sessions.{Opening}
+use Rattle.std.proofs.Common.{◌≡◌, ℕ, List, [], ◌∷◌, Result, Ok, Err, Bool, true, false, not, refl}
+use Rattle.kumo_outside.specs.Sessions.{LinkSeen}
 use Rattle.queue_name.specs.declared.message.Message.{Message}
 use Rattle.smtp_reply.specs.declared.reply.Outcome.{Outcome}
 use Rattle.smtp_reply.specs.declared.reply.Outcome.TheVariants.{Lost}
@@ -9,21 +9,21 @@ use Rattle.kumo_run.specs.declared.dispatcher.WorkFault.TheVariants.{NotOpened, 
 use Rattle.history_core.specs.declared.entry.Entry.{Entry}
 use Rattle.smtp_dialogue.specs.Transcript.{greeting, attempted, parting, before_parting}
 use Rattle.smtp_dialogue.specs.Speaks.{Side, side, Speaks}
-use Rattle.kumo_run.specs.Delivery.{localhost}
+use Rattle.policy_core.specs.Limits.{localhost}
 use Rattle.kumo_run.specs.Working.{IsFreshLink, Converses, Parts}
 use Rattle.kumo_run.proofs.SessionLemmas.{speaks_before_parting, tells_refused, tells_lost, tells_delivered, tells_undelivered}
 use Rattle.kumo_run.proofs.dispatcher.converse.Goals as goal
 
 -- what the last part answers decides what the link tells
-module _ (m : Message) (o : Opening) (s g : Option (List ℕ)) (e : Bool) (f : ℕ) (fresh : IsFreshLink s g f) (s1 s2 s3 : Side) (at_fault : List Outcome) (outcome : Outcome)
-    (greets : Speaks (greeting localhost) (side s g e f []) s1 [] [] true)
+module _ (m : Message) (k : LinkSeen) (fresh : IsFreshLink k) (s1 s2 s3 : Side) (at_fault : List Outcome) (outcome : Outcome)
+    (greets : Speaks (greeting localhost) (side k []) s1 [] [] true)
     (tries : Speaks (attempted m.sender m.recipient m.body) s1 s2 at_fault (outcome ∷ []) true) where
-  both : Speaks (before_parting localhost (m ∷ [])) (side s g e f []) s2 at_fault (outcome ∷ []) true
-  both = speaks_before_parting m (side s g e f []) s1 s2 at_fault (outcome ∷ []) true greets tries
+  both : Speaks (before_parting localhost (m ∷ [])) (side k []) s2 at_fault (outcome ∷ []) true
+  both = speaks_before_parting m (side k []) s1 s2 at_fault (outcome ∷ []) true greets tries
 
-  converses : {T : Type 0} (r : Result T WorkFault) (h : List Entry) → Parts m outcome r h (Speaks parting s2 s3 [] [] false) → Converses m o s3.sent s3.got s3.ended s3.faults r h
+  converses : {T : Type 0} (r : Result T WorkFault) (h : List Entry) → Parts m outcome r h (Speaks parting s2 s3 [] [] false) → Converses m s3.link r h
   converses (Ok x) h (reply, is, history, parts) =
-      let told = tells_delivered m o s g e f fresh s2 s3 at_fault outcome both parts reply is in
+      let told = tells_delivered m k fresh s2 s3 at_fault outcome both parts reply is in
       record {
         sent_bytes = told.sent_bytes;
         got_bytes = told.got_bytes;
@@ -33,7 +33,7 @@ module _ (m : Message) (o : Opening) (s g : Option (List ℕ)) (e : Bool) (f : �
         decided = (reply, history, told.decided);
       }
   converses (Err NotOpened) h parts = tt
-  converses (Err NotDelivered) h (other, parts) = tells_undelivered m o s g e f fresh s2 s3 at_fault outcome both parts other
+  converses (Err NotDelivered) h (other, parts) = tells_undelivered m k fresh s2 s3 at_fault outcome both parts other
   converses (Err Memory) h parts = tt
 
 -- the texts handed in are the message's, and the answer says whether the link is alive
@@ -53,17 +53,17 @@ pub returns-in-Refused-clause-told : goal.returns-in-Refused-clause-told
 returns-in-Refused-clause-told g c = λ fresh.
     let link = c.args.link.now in
     let new = c.greet.new.link in
-    tells_refused c.args.message.now (g.L.Link.opening new) (g.L.Link.sent link) (g.L.Link.got link) (g.L.Link.ended link) (g.L.Link.faults link) fresh
-    (side (g.L.Link.sent new) (g.L.Link.got new) (g.L.Link.ended new) (g.L.Link.faults new) c.greet.new.scratch) c.in-Refused.ensures.spoken
+    tells_refused c.args.message.now (g.L.Link.seen link) fresh
+    (side (g.L.Link.seen new) c.greet.new.scratch) c.in-Refused.ensures.spoken
 
 pub returns-then-not-tried-clause-told : goal.returns-then-not-tried-clause-told
 returns-then-not-tried-clause-told g c = λ fresh.
     let link = c.args.link.now in
     let mid = c.greet.new.link in
     let new = c.attempt-tried.new.link in
-    let s1 = side (g.L.Link.sent mid) (g.L.Link.got mid) (g.L.Link.ended mid) (g.L.Link.faults mid) c.greet.new.scratch in
-    let s2 = side (g.L.Link.sent new) (g.L.Link.got new) (g.L.Link.ended new) (g.L.Link.faults new) c.attempt-tried.new.scratch in
-    tells_lost c.args.message.now (g.L.Link.opening new) (g.L.Link.sent link) (g.L.Link.got link) (g.L.Link.ended link) (g.L.Link.faults link) fresh
+    let s1 = side (g.L.Link.seen mid) c.greet.new.scratch in
+    let s2 = side (g.L.Link.seen new) c.attempt-tried.new.scratch in
+    tells_lost c.args.message.now (g.L.Link.seen link) fresh
     s1 s2 (Lost LinkFault ∷ []) (c.attempt-tried.result.outcome ∷ []) c.in-Ready.ensures.spoken
     (tried_as c.args.message.now s1 s2 _ _ _ _ _ _ _ c.as_str.ensures c.as_str-2.ensures c.as_str-3.ensures (not_true _ c.if-not-tried.true) c.attempt-tried.ensures.spoken)
 
@@ -73,10 +73,10 @@ returns-clause-told g c = λ fresh.
     let mid = c.greet.new.link in
     let at = c.attempt-tried.new.link in
     let new = c.part.new.link in
-    let s1 = side (g.L.Link.sent mid) (g.L.Link.got mid) (g.L.Link.ended mid) (g.L.Link.faults mid) c.greet.new.scratch in
-    let s2 = side (g.L.Link.sent at) (g.L.Link.got at) (g.L.Link.ended at) (g.L.Link.faults at) c.attempt-tried.new.scratch in
-    let s3 = side (g.L.Link.sent new) (g.L.Link.got new) (g.L.Link.ended new) (g.L.Link.faults new) c.part.new.scratch in
-    converses c.args.message.now (g.L.Link.opening new) (g.L.Link.sent link) (g.L.Link.got link) (g.L.Link.ended link) (g.L.Link.faults link) fresh
+    let s1 = side (g.L.Link.seen mid) c.greet.new.scratch in
+    let s2 = side (g.L.Link.seen at) c.attempt-tried.new.scratch in
+    let s3 = side (g.L.Link.seen new) c.part.new.scratch in
+    converses c.args.message.now (g.L.Link.seen link) fresh
     s1 s2 s3 (Lost LinkFault ∷ []) c.attempt-tried.result.outcome c.in-Ready.ensures.spoken
     (tried_as c.args.message.now s1 s2 _ _ _ _ _ _ _ c.as_str.ensures c.as_str-2.ensures c.as_str-3.ensures (not_false _ c.if-not-tried.false) c.attempt-tried.ensures.spoken)
     c.part.result c.part.new.registry c.part.ensures.spoken
