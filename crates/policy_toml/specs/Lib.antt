@@ -1,4 +1,3 @@
-pub mod Limits
 pub mod Places
 pub mod Values
 pub mod Walks

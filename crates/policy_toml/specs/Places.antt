@@ -1,7 +1,7 @@
 -- The places of faults in a TOML file. Where a file has several faults, the first by place is reported: by the keys of its
 -- table joined by `.`, then, for tables in a list, by their place there, then by its key, then, in a value that is a list,
 -- by the place there, then by the order of the refusals.
-use Rattle.std.specs.Prelude.{ℕ, ◌==◌, List, [], ◌∷◌, ◌++◌, length, decimal, Option, Some, None, if◌then◌else◌}
+use Rattle.std.specs.Prelude.{ℕ, ◌==◌, List, [], ◌∷◌, ◌++◌, length, decimal, codes, Option, Some, None, if◌then◌else◌}
 use Rattle.std.specs.declared.cmp.Ordering.{Ordering}
 use Rattle.std.specs.Ordering.{nat_cmp, ordering_then, is_lt}
 use Rattle.std.specs.Cmp.Lexicographic.{slice_cmp}
@@ -10,7 +10,6 @@ use Rattle.policy_core.specs.declared.fault.Ignored.{Ignored}
 use Rattle.policy_core.specs.declared.fault.Why.{Why}
 use Rattle.policy_core.specs.declared.fault.Why.TheVariants as why
 use Rattle.policy_toml.specs.declared.fault.Fault.{Fault}
-use Rattle.policy_toml.specs.Limits.{whole_table}
 
 -- a table within a table, which is the empty text at the top level
 abbrev pub joined : List ℕ → List ℕ → List ℕ
@@ -25,7 +24,7 @@ fault table key why = fault_in table 0 key 0 why
 
 -- the key of a fault of a table as a whole, and the name of the top level
 abbrev pub whole_table : List ℕ
-whole_table = whole_table
+whole_table = codes "-"
 
 -- the order of the refusals that one key may meet
 -- it serves all files: a shaping file lists BadDuration behind BadAction, but at its `duration` no other word but BadType stands

@@ -3,7 +3,7 @@ ghost use Rattle.std.specs.Prelude.{◌≡◌, ℕ, List, Some, None, false, sli
 ghost use Rattle.std.specs.Ordering.{is_lt};
 ghost use Rattle.policy_toml.specs.declared.fault.Fault.{Fault};
 ghost use Rattle.policy_toml.specs.Places.{first_of, fault_cmp};
-ghost use Rattle.policy_toml.specs.Limits.{whole_table};
+ghost use Rattle.policy_toml.specs.Places.{whole_table};
 ghost use Rattle.policy_toml.specs.declared.fault.TheConstants.{WHOLE_TABLE};
 
 /// The first of faults is one of them.
