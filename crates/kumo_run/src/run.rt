@@ -10,16 +10,16 @@ ghost use Rattle.kumo_run.specs.Printing.{IsCheckText, IsExplainText, HasTextCau
 ghost use Rattle.kumo_run.specs.Work.{all_sessions};
 ghost use Rattle.kumo_run.specs.declared.status.Status.{Status};
 
-use delivery_log::{LogWriteFault, write_log};
 use crate::printing::{check_text, explain_text};
 use crate::refusal::Refusal;
-use scripted_peer::{PeerReplies, ScriptedLinker};
 use crate::status::Status;
 use crate::work::send_mail_text;
 use command_words::{Asked, Command, PolicyNames, Sending, command_of};
+use delivery_log::{LogWriteFault, write_log};
 use history_core::History;
 use kumo_base::{Failed, Text};
 use kumo_outside::{Search, Sink, Texts, put_all};
+use scripted_peer::{PeerReplies, ScriptedLinker};
 use std::alloc::Global;
 
 /// What a call of the program leaves.

@@ -10,12 +10,12 @@ ghost use Rattle.kumo_run.specs.Work.{HasReason, StopsShort, IsMisread, IsUnread
 use crate::dispatcher::{WorkFault, deliver};
 use crate::refusal::Refusal;
 use crate::registry::Registry;
-use scripted_peer::{PeerReplies, ScriptedLinker};
 use history_core::History;
 use kumo_base::Memory;
 use kumo_outside::{ReadTextFault, TEXT_LIMIT, Texts, read_text};
 use mail_input::{MailFault, read_mail};
 use queue_name::Message;
+use scripted_peer::{PeerReplies, ScriptedLinker};
 use std::alloc::Global;
 
 /// Reads the mail text of that name and sends its message to peers that reply so. The linker that was used is added to
