@@ -1,5 +1,5 @@
-//! Tests of the crates that talk to the world: the devices, searches of patterns, replies in pieces, and the dialogue over a
-//! link.
+//! Tests of the crates that talk to the world: the devices, searches of patterns, replies in pieces, the dialogue over a link,
+//! scripted peers, and the lines of the log.
 //!
 //! It stands above these crates and has no function of its own, so that each of them is proved once and without tests.
 #![tactic(auto)]
@@ -9,11 +9,15 @@ mod devices;
 #[cfg(test)]
 mod grammar;
 #[cfg(test)]
+mod log_lines;
+#[cfg(test)]
 mod patterns;
 #[cfg(test)]
 mod replies;
 #[cfg(test)]
 mod script;
+#[cfg(test)]
+mod scripted_peers;
 #[cfg(test)]
 mod sessions;
 #[cfg(test)]
