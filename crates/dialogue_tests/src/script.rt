@@ -22,15 +22,13 @@ struct Script<'a> {
 }
 
 impl<'a> Link for Script<'a> {
-    ghost opening = { λ _. record { place = 0; host = []; source = []; uses = [] } };
-
-    ghost sent = { λ _. None };
-
-    ghost got = { λ _. None };
-
-    ghost ended = { λ s. s.ended };
-
-    ghost faults = { λ s. s.faults };
+    ghost seen = { λ s. record {
+        opening = record { place = 0; host = []; source = []; uses = [] };
+        sent = None;
+        got = None;
+        ended = s.ended;
+        faults = s.faults;
+    } };
 
     #[tactic(auto, unfolding(kumo_outside::specs::Told::extended))]
     fn send(&mut self, piece: &[u8]) -> Result<usize, Failed> {
