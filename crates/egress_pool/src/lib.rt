@@ -5,8 +5,6 @@
 //! as many places as the weights' sum; it is not stored.
 #![tactic(auto)]
 
-#[cfg(test)]
-mod tests;
 mod turner;
 
 pub use turner::Turner;

@@ -22,8 +22,6 @@ mod settings;
 mod shaping;
 mod site;
 mod sources;
-#[cfg(test)]
-mod tests;
 
 pub use fault::{Ignored, PolicyFault, PolicyFile, Why};
 pub use mx::{MxRow, MxTable};

@@ -9,8 +9,6 @@ mod explain;
 mod load;
 mod report;
 mod stages;
-#[cfg(test)]
-mod tests;
 
 pub use explain::explain_queue;
 pub use load::{LoadFault, PolicyTexts, load_policy};

@@ -15,8 +15,6 @@ mod rollups;
 mod shapes;
 mod sites;
 mod tables;
-#[cfg(test)]
-mod tests;
 
 pub use explain::explain_text;
 pub use merge::path_base;

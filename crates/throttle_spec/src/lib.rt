@@ -9,8 +9,6 @@ mod bucket;
 mod conforming;
 pub mod laws;
 mod parse;
-#[cfg(test)]
-mod tests;
 mod throttle;
 
 pub use bucket::Bucket;

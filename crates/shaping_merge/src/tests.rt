@@ -1,4 +1,0 @@
-//! The public calls, each on values made here.
-
-mod explaining;
-mod paths;
