@@ -15,8 +15,6 @@ mod faults;
 mod ignored;
 mod order;
 mod sources;
-#[cfg(test)]
-mod tests;
 mod values;
 
 use crate::faults::faults_in;
