@@ -1,7 +1,7 @@
 //! Files that are made for a test: long patterns, many patterns, many lines.
 use super::engine;
 use crate::outcome::{expect, joined, push_times, refusal};
-use policy_core::Shaping;
+use policy_core::{DomainShape, Shaping};
 use shaping_policy::read_shaping;
 use std::alloc::Global;
 use std::test::Fail;
@@ -154,15 +154,15 @@ fn domains(alloc: Global, count: u32) -> Result<String, Fail> {
     Ok(text)
 }
 
+/// Whether the table of a domain has one rule and one source.
+fn is_whole(domain: &DomainShape) -> bool {
+    domain.table.rules.as_slice().len() == 1 && domain.table.sources.as_slice().len() == 1
+}
+
 /// How many domains a file has, and how many of them have one rule and one source.
 fn counted(alloc: Global, shaping: &Shaping) -> Result<String, Fail> {
     let domains = shaping.domains.as_slice();
-    let mut whole: u64 = 0;
-    for domain in domains {
-        if domain.table.rules.as_slice().len() == 1 && domain.table.sources.as_slice().len() == 1 {
-            whole += 1;
-        }
-    }
+    let whole = domains.iter().filter(|domain| is_whole(domain)).count();
     let count = domains.len();
     Ok(format!(in alloc; "{count} domains, {whole} whole")?)
 }
