@@ -25,8 +25,6 @@ pub mod laws;
 mod line;
 mod row;
 mod table;
-#[cfg(test)]
-mod tests;
 
 use crate::fault::RowFault;
 use crate::row::Row;

@@ -11,8 +11,6 @@ mod fault;
 mod ignored;
 pub mod laws;
 mod order;
-#[cfg(test)]
-mod tests;
 mod values;
 
 pub use document::{entry, is_table, joined, open_document, table_at};

@@ -13,8 +13,6 @@ mod faults;
 mod ignored;
 mod queues;
 mod settings;
-#[cfg(test)]
-mod tests;
 mod values;
 
 use policy_core::{Ignored, PolicyFault, PolicyFile, Queues};

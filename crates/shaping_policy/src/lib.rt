@@ -23,8 +23,6 @@ mod rule_values;
 mod rules;
 mod shaping;
 mod tables;
-#[cfg(test)]
-mod tests;
 mod text_places;
 
 use kumo_outside::{Search, SearchFault};

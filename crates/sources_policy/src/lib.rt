@@ -16,8 +16,6 @@ mod ignored;
 pub mod laws;
 mod order;
 mod sources;
-#[cfg(test)]
-mod tests;
 mod values;
 
 use crate::faults::faults_in;

@@ -1,10 +1,10 @@
 //! What files without faults give.
-use super::compare;
+use crate::outcome::compare;
+use policy_core::PolicyFile;
 use std::test::Fail;
 
 /// A table for all paths with a rule, a provider, and three domains, one with a source.
-pub(super) fn sample() -> &'static str {
-    "[\"default\"]
+pub const SAMPLE: &str = "[\"default\"]
 connection_limit = 10
 max_message_rate = \"100/min\"
 enable_tls = \"Opportunistic\"
@@ -24,24 +24,20 @@ max_message_rate = \"10/s,max_burst=20\"
 connection_limit = 4
 [\"solo.example\"]
 mx_rollup = false
-"
-}
+";
 
-fn given_by_sample() -> &'static str {
-    "default: limit=10 messages=100/60000/100
+const GIVEN_BY_SAMPLE: &str = "default: limit=10 messages=100/60000/100
  rule 'too busy' Suspend 3/3600000 for 1800000
 provider hosts *.big.example Big: deliveries=20
 domain one.example: limit=5
  source ip-1: messages=10/1000/20
 domain alone solo.example:
 domain two.example: limit=4
-ignored default enable_tls
-"
-}
+ignored shaping default enable_tls
+";
 
 /// Options of every kind, as numbers and as texts.
-fn options() -> &'static str {
-    "[default]
+const OPTIONS: &str = "[default]
 connection_limit = 'local:12'
 max_message_rate = 'local:5/s'
 max_connection_rate = '2/hour'
@@ -50,16 +46,13 @@ max_ready = 1
 consecutive_connection_failures_before_delay = 1000000
 automation = []
 sources = {}
-"
-}
+";
 
-fn given_by_options() -> &'static str {
-    "default: limit=12 messages=5/1000/5 connections=2/3600000/2 deliveries=1000000 ready=1 failures=1000000\n"
-}
+const GIVEN_BY_OPTIONS: &str =
+    "default: limit=12 messages=5/1000/5 connections=2/3600000/2 deliveries=1000000 ready=1 failures=1000000\n";
 
 /// Rules of several actions and patterns, in tables of every kind.
-fn rules() -> &'static str {
-    "[[default.automation]]
+const RULES: &str = "[[default.automation]]
 regex = ['b', 'a']
 action = ['SuspendTenant', {SetConfig={name='max_ready', value='local:7'}}, 'SuspendCampaign', 'Suspend']
 trigger = 'Immediate'
@@ -88,11 +81,9 @@ duration = 3153600000
 regex = ''
 action = [{SetConfig={value=2, name='connection_limit'}}, {SetConfig={value='4', name='max_deliveries_per_connection'}}]
 duration = '2 weeks'
-"
-}
+";
 
-fn given_by_rules() -> &'static str {
-    "default:
+const GIVEN_BY_RULES: &str = "default:
  rule 'b' 'a' SuspendTenant each for 90000
  rule 'b' 'a' ready=7 each for 90000
  rule 'b' 'a' SuspendCampaign each for 90000
@@ -107,12 +98,10 @@ domain d:
  source s:
  rule '' limit=2 each for 1209600000
  rule '' deliveries=4 each for 1209600000
-"
-}
+";
 
 /// Names out of their order, with capitals, dots and blanks.
-fn names() -> &'static str {
-    "[provider.b]
+const NAMES: &str = "[provider.b]
 match = [{MXSuffix='.Big.Example'}, {DomainSuffix='X'}, {MXSuffix=''}]
 [provider.'A b']
 match = {DomainSuffix='.x'}
@@ -129,11 +118,9 @@ mx_rollup = true
 [C]
 mx_rollup = false
 [a]
-"
-}
+";
 
-fn given_by_names() -> &'static str {
-    "default:
+const GIVEN_BY_NAMES: &str = "default:
 provider domains *.x A b:
  source a 2: ready=2
  source z.1:
@@ -144,20 +131,17 @@ domain b.example:
 domain alone c:
 domain default: ready=3
 domain provider: ready=4
-"
-}
+";
 
-fn files() -> [(&'static str, &'static str); 5] {
-    [
-        (sample(), given_by_sample()),
-        ("", "default:\n"),
-        (options(), given_by_options()),
-        (rules(), given_by_rules()),
-        (names(), given_by_names()),
-    ]
-}
+const FILES: [(&str, &str); 5] = [
+    (SAMPLE, GIVEN_BY_SAMPLE),
+    ("", "default:\n"),
+    (OPTIONS, GIVEN_BY_OPTIONS),
+    (RULES, GIVEN_BY_RULES),
+    (NAMES, GIVEN_BY_NAMES),
+];
 
 #[test]
 fn files_are_read(rt: HostRuntime) -> Result<(), Fail> {
-    compare(&rt, rt.alloc(), &files())
+    compare(&rt, rt.alloc(), PolicyFile::Shaping, &FILES)
 }

@@ -1,10 +1,10 @@
 //! Keys that are accepted and have no effect.
-use super::compare;
+use crate::outcome::compare;
+use policy_core::PolicyFile;
 use std::test::Fail;
 
 /// Keys without effect at every level, of which some have one elsewhere.
-fn keys() -> &'static str {
-    "[default]
+const KEYS: &str = "[default]
 enable_tls = {any = 'value'}
 mx_rollup = 'yes'
 match = 5
@@ -29,36 +29,32 @@ mx_rollup = false
 match = 5
 sources = 5
 w = 1
-"
-}
+";
 
-fn listed() -> &'static str {
-    "default: limit=1
+const LISTED: &str = "default: limit=1
  rule 'a' Suspend each for 1000
 provider hosts *.x p:
 domain d.example:
  source ip:
-ignored d.example match
-ignored d.example replace_base
-ignored d.example z
-ignored d.example.sources.ip match
-ignored d.example.sources.ip mx_rollup
-ignored d.example.sources.ip sources
-ignored d.example.sources.ip w
-ignored default enable_tls
-ignored default match
-ignored default mx_rollup
-ignored default replace_base
-ignored provider.p mx_rollup
-ignored provider.p y
-ignored default.automation.1 sources
-ignored default.automation.1 x
-"
-}
+ignored shaping d.example match
+ignored shaping d.example replace_base
+ignored shaping d.example z
+ignored shaping d.example.sources.ip match
+ignored shaping d.example.sources.ip mx_rollup
+ignored shaping d.example.sources.ip sources
+ignored shaping d.example.sources.ip w
+ignored shaping default enable_tls
+ignored shaping default match
+ignored shaping default mx_rollup
+ignored shaping default replace_base
+ignored shaping provider.p mx_rollup
+ignored shaping provider.p y
+ignored shaping default.automation.1 sources
+ignored shaping default.automation.1 x
+";
 
 /// Actions that set options which have no effect here.
-fn actions() -> &'static str {
-    "[[default.automation]]
+const ACTIONS: &str = "[[default.automation]]
 regex = 'a'
 action = [{SetConfig={name='enable_tls', value='Required'}}, 'Suspend', {SetConfig={name='x', value={}}}]
 duration = 1
@@ -71,11 +67,9 @@ regex = 'c'
 action = {SetConfig={name='', value=1}}
 duration = 1
 zone = 1
-"
-}
+";
 
-fn of_actions() -> &'static str {
-    "default:
+const OF_ACTIONS: &str = "default:
  rule 'a' Nothing each for 1000
  rule 'a' Suspend each for 1000
  rule 'a' Nothing each for 1000
@@ -83,17 +77,14 @@ fn of_actions() -> &'static str {
 domain a:
  source s:
  rule 'c' Nothing each for 1000
-ignored a.sources.s.automation.1 zone
-ignored a.sources.s.automation.1 action
-ignored default.automation.1 action
-"
-}
+ignored shaping a.sources.s.automation.1 zone
+ignored shaping a.sources.s.automation.1 action
+ignored shaping default.automation.1 action
+";
 
-fn files() -> [(&'static str, &'static str); 2] {
-    [(keys(), listed()), (actions(), of_actions())]
-}
+const FILES: [(&str, &str); 2] = [(KEYS, LISTED), (ACTIONS, OF_ACTIONS)];
 
 #[test]
 fn keys_without_effect_are_listed(rt: HostRuntime) -> Result<(), Fail> {
-    compare(&rt, rt.alloc(), &files())
+    compare(&rt, rt.alloc(), PolicyFile::Shaping, &FILES)
 }

@@ -1,33 +1,31 @@
 //! Shaping as text, with a line for each table, rule and key without effect.
+use crate::outcome::{push_ignored, push_number, push_words};
+use kumo_base::Text;
 use policy_core::{
     Action, DomainShape, Ignored, Match, Options, Provider, Rule, Setting, ShapeTable, Shaping,
     Trigger,
 };
+use std::alloc::Global;
 use std::test::Fail;
 use throttle_spec::ThrottleSpec;
 
-pub(super) fn push_file(
-    out: &mut String,
-    shaping: &Shaping,
-    ignored: &[Ignored],
-) -> Result<(), Fail> {
-    push_shape(out, "default", &shaping.base)?;
+/// The data of a file and its keys without effect.
+pub fn shown(alloc: Global, shaping: &Shaping, ignored: &[Ignored]) -> Result<String, Fail> {
+    let mut out = String::new(alloc);
+    push_shape(&mut out, "default", &shaping.base)?;
     for provider in shaping.providers.as_slice() {
-        push_provider(out, provider)?;
+        push_provider(&mut out, provider)?;
     }
     for domain in shaping.domains.as_slice() {
-        push_domain(out, domain)?;
+        push_domain(&mut out, domain)?;
     }
-    for key in ignored {
-        let (table, key) = (key.table.as_str(), key.key.as_str());
-        writeln!(out, "ignored {table} {key}")?;
-    }
-    Ok(())
+    push_ignored(&mut out, ignored)?;
+    Ok(out)
 }
 
 fn push_provider(out: &mut String, provider: &Provider) -> Result<(), Fail> {
     let name = provider.name.as_str();
-    write!(out, "provider")?;
+    push_words(out, &["provider"])?;
     for found in provider.matches.as_slice() {
         match found {
             Match::MxSuffix(suffix) => push_words(out, &[" hosts *", suffix.as_str()])?,
@@ -62,20 +60,30 @@ fn push_shape(out: &mut String, name: &str, shape: &ShapeTable) -> Result<(), Fa
 /// A name and the options that are set there.
 fn push_options(out: &mut String, name: &str, options: &Options) -> Result<(), Fail> {
     push_words(out, &[name, ":"])?;
-    push_number(out, "limit", options.connection_limit)?;
-    push_rate(out, "messages", options.max_message_rate)?;
-    push_rate(out, "connections", options.max_connection_rate)?;
-    push_number(out, "deliveries", options.max_deliveries_per_connection)?;
-    push_number(out, "ready", options.max_ready)?;
-    push_number(out, "failures", options.failures_before_delay)?;
+    push_rates(out, options)?;
+    push_bounds(out, options)?;
     push_words(out, &["\n"])
 }
 
-fn push_number(out: &mut String, name: &str, number: Option<u32>) -> Result<(), Fail> {
-    if let Some(number) = number {
-        write!(out, " {name}={number}")?;
+/// The bound of connections, and the rates.
+fn push_rates(out: &mut String, options: &Options) -> Result<(), Fail> {
+    push_count(out, "limit", options.connection_limit)?;
+    push_rate(out, "messages", options.max_message_rate)?;
+    push_rate(out, "connections", options.max_connection_rate)
+}
+
+/// The bounds of a connection and of the messages that are ready.
+fn push_bounds(out: &mut String, options: &Options) -> Result<(), Fail> {
+    push_count(out, "deliveries", options.max_deliveries_per_connection)?;
+    push_count(out, "ready", options.max_ready)?;
+    push_count(out, "failures", options.failures_before_delay)
+}
+
+fn push_count(out: &mut String, word: &str, count: Option<u32>) -> Result<(), Fail> {
+    match count {
+        Some(count) => push_number(out, word, Some(count as u64)),
+        None => Ok(()),
     }
-    Ok(())
 }
 
 /// A rate as its quantity, its period in milliseconds and its burst.
@@ -95,17 +103,27 @@ fn push_rules(out: &mut String, rules: &[Rule]) -> Result<(), Fail> {
 }
 
 fn push_rule(out: &mut String, rule: &Rule) -> Result<(), Fail> {
+    push_patterns(out, rule.patterns.as_slice())?;
+    push_action(out, rule.action)?;
+    push_trigger(out, rule.trigger)?;
+    let duration = rule.duration;
+    writeln!(out, " for {duration}")?;
+    Ok(())
+}
+
+fn push_patterns(out: &mut String, patterns: &[Text]) -> Result<(), Fail> {
     push_words(out, &[" rule"])?;
-    for pattern in rule.patterns.as_slice() {
+    for pattern in patterns {
         push_words(out, &[" '", pattern.as_str(), "'"])?;
     }
-    push_action(out, rule.action)?;
-    match rule.trigger {
+    Ok(())
+}
+
+fn push_trigger(out: &mut String, trigger: Trigger) -> Result<(), Fail> {
+    match trigger {
         Trigger::Immediate => push_words(out, &[" each"])?,
         Trigger::Threshold { count, period } => write!(out, " {count}/{period}")?,
     }
-    let duration = rule.duration;
-    writeln!(out, " for {duration}")?;
     Ok(())
 }
 
@@ -121,18 +139,11 @@ fn push_action(out: &mut String, action: Action) -> Result<(), Fail> {
 
 fn push_setting(out: &mut String, setting: Setting) -> Result<(), Fail> {
     match setting {
-        Setting::ConnectionLimit(number) => push_number(out, "limit", Some(number)),
+        Setting::ConnectionLimit(number) => push_count(out, "limit", Some(number)),
         Setting::MessageRate(rate) => push_rate(out, "messages", Some(rate)),
         Setting::ConnectionRate(rate) => push_rate(out, "connections", Some(rate)),
-        Setting::Deliveries(number) => push_number(out, "deliveries", Some(number)),
-        Setting::ReadyLimit(number) => push_number(out, "ready", Some(number)),
-        Setting::FailuresBeforeDelay(number) => push_number(out, "failures", Some(number)),
+        Setting::Deliveries(number) => push_count(out, "deliveries", Some(number)),
+        Setting::ReadyLimit(number) => push_count(out, "ready", Some(number)),
+        Setting::FailuresBeforeDelay(number) => push_count(out, "failures", Some(number)),
     }
-}
-
-pub(super) fn push_words(out: &mut String, words: &[&str]) -> Result<(), Fail> {
-    for word in words {
-        out.push_str(word)?;
-    }
-    Ok(())
 }
