@@ -8,10 +8,10 @@ use Rattle.std.proofs.lemmas.List.Folds.{list_any-append}
 use Rattle.std.proofs.lemmas.List.Sums.{fold-append, sum_by-append}
 use Rattle.queue_name.specs.declared.message.Message.{Message}
 use Rattle.history_core.specs.declared.entry.Entry.{Entry}
-use Rattle.history_core.specs.Events.{message_in, is_stopped, settled_in, is_this}
+use Rattle.history_core.specs.Events.{message_in, closed_in, is_stopped, settled_in, is_this}
 use Rattle.history_core.specs.History.{messages, has_stopped, last_moment}
 use Rattle.history_core.specs.Fate.{fate_of}
-use Rattle.history_core.specs.Connection.{Connection, connection_in, connections, used, busy_after, busy_with, ready_after, ready_among, ready, is_ready_after, is_ready}
+use Rattle.history_core.specs.Connection.{Connection, connection_in, connections, is_closed, used, busy_after, busy_with, ready_after, ready_among, ready, is_ready_after, is_ready}
 use Rattle.history_core.specs.Openable.{rank_after, opened_rank}
 
 pub messages-more : (h : List Entry) (e : Entry) → messages (h ++ e ∷ []) ≡ messages h ++ messages (e ∷ [])
@@ -28,6 +28,9 @@ fate_of-more h e id = filter-append (λ x. is_this (settled_in x.what) id) h (e 
 
 pub connections-more : (h : List Entry) (e : Entry) → connections (h ++ e ∷ []) ≡ connections h ++ connections (e ∷ [])
 connections-more h e = filter_map-append connection_in h (e ∷ [])
+
+pub is_closed-more : (h : List Entry) (e : Entry) (conn : ℕ) → is_closed (h ++ e ∷ []) conn ≡ (is_closed h conn || is_closed (e ∷ []) conn)
+is_closed-more h e conn = list_any-append (λ x. is_this (closed_in x.what) conn) h (e ∷ [])
 
 pub used-more : (h : List Entry) (e : Entry) (conn : ℕ) → used (h ++ e ∷ []) conn ≡ used h conn + used (e ∷ []) conn
 used-more h e conn = sum_by-append _ h (e ∷ [])
@@ -48,9 +51,8 @@ pub ready-more : (h : List Entry) (e : Entry) (path : List ℕ) → messages (h 
 ready-more h e path none = ap (λ ms. ready_among ms path (h ++ e ∷ [])) none ∙ ready_among-more (messages h) path h e
 
 pub opened_rank-more : (h : List Entry) (e : Entry) (path : List ℕ)
-    → opened_rank (h ++ e ∷ []) path ≡ fold (λ was c. rank_after path was c) (opened_rank h path) (connections (e ∷ []))
-opened_rank-more h e path =
-    ap (fold (λ was c. rank_after path was c) 0) (connections-more h e) ∙ fold-append (λ was c. rank_after path was c) 0 (connections h) (connections (e ∷ []))
+    → opened_rank (h ++ e ∷ []) path ≡ fold (rank_after path) (opened_rank h path) (connections (e ∷ []))
+opened_rank-more h e path = ap (fold (rank_after path) 0) (connections-more h e) ∙ fold-append (rank_after path) 0 (connections h) (connections (e ∷ []))
 
 -- a connection that was opened stays so
 pub connections-kept : (h : List Entry) (e : Entry) (p : Connection → Bool) → list_any p (connections h) ≡ true → list_any p (connections (h ++ e ∷ [])) ≡ true

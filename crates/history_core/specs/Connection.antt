@@ -22,9 +22,12 @@ connection_in e = option_map (λ o. record { number = o.number; path = o.path; w
 abbrev pub connections : List Entry → List Connection
 connections h = filter_map connection_in h
 
+abbrev pub is_closed : List Entry → ℕ → Bool
+is_closed h conn = list_any (λ e. is_this (closed_in e.what) conn) h
+
 -- those that were not closed
 abbrev pub open_anywhere : List Entry → List Connection
-open_anywhere h = filter (λ c. not (list_any (λ e. is_this (closed_in e.what) c.number) h)) (connections h)
+open_anywhere h = filter (λ c. not (is_closed h c.number)) (connections h)
 
 abbrev pub open_connections : List Entry → List ℕ → List Connection
 open_connections h path = filter (λ c. bytes_eq c.path path) (open_anywhere h)

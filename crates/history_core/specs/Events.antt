@@ -8,7 +8,7 @@ use Rattle.history_core.specs.declared.entry.Event.TheVariants.{Accepted, Promot
 use Rattle.history_core.specs.declared.entry.Next.{Next}
 use Rattle.history_core.specs.declared.entry.Next.TheVariants.{Settled, Expired}
 
--- an event that speaks of a number speaks of this one
+-- there is a number, and it is this one
 abbrev pub is_this : Option ℕ → ℕ → Bool
 is_this None id = false
 is_this (Some i) id = i == id
@@ -36,12 +36,12 @@ abbrev pub opening_in : Event → Option Opening
 opening_in (Opened conn path key) = Some (record { number = conn; path = path })
 opening_in _ = None
 
--- the connection is closed
+-- a connection is closed
 abbrev pub closed_in : Event → Option ℕ
 closed_in (Closed conn cause) = Some conn
 closed_in _ = None
 
--- an attempt begins on the connection
+-- an attempt begins on a connection
 abbrev pub begun_in : Event → Option ℕ
 begun_in (Begun conn id key) = Some conn
 begun_in _ = None

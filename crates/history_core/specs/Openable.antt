@@ -25,12 +25,13 @@ paths h = distinct (filter_map (λ e. path_in (messages h) e.what) h)
 abbrev pub is_openable : List Entry → List ℕ → Bool
 is_openable h path = nat_lt (length (open_connections h path)) default_connection_limit && nat_lt 0 (length (ready h path))
 
+-- the rank of a path after a connection: one more than the moment of its opening, where it is of the path
 abbrev pub rank_after : List ℕ → ℕ → Connection → ℕ
 rank_after path was c = if bytes_eq c.path path then c.at + 1 else was
 
 -- one more than the moment of the path's last Opened, 0 where it was never opened
 abbrev pub opened_rank : List Entry → List ℕ → ℕ
-opened_rank h path = fold (λ was c. rank_after path was c) 0 (connections h)
+opened_rank h path = fold (rank_after path) 0 (connections h)
 
 abbrev pub lesser : (List ℕ → ℕ) → List ℕ → Option (List ℕ) → Option (List ℕ)
 lesser rank path None = Some path
