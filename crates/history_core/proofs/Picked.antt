@@ -1,19 +1,17 @@
 -- What is known of the message that is promoted next, and of the one that is attempted next.
-use Rattle.std.proofs.Common.{◌≡◌, ⊎_elim, ℕ, List, [], ◌∷◌, ◌++◌, Bool, true, false, not, cond, ◌&&◌, ◌||◌, Option, Some, None, length, filter, eqb, bytes_eq, arith, refl, sym, ap, subst, ◌∙◌}
+use Rattle.std.proofs.Common.{◌≡◌, ⊎_elim, ℕ, List, [], ◌∷◌, Bool, true, false, not, cond, ◌&&◌, Option, Some, None, length, filter, eqb, arith, refl, ap, subst, ◌∙◌}
 use Rattle.std.specs.List.{list_any}
-use Rattle.std.proofs.lemmas.Bool.{and_parts, both_ways, eq-eqb, eqb-true, eqb-false, ne_eqb, not-true, or_cases, or_left, or_right}
-use Rattle.std.proofs.lemmas.List.Folds.{fold_along, list_any-append}
+use Rattle.std.proofs.lemmas.Bool.{and_parts, both_ways, eq-eqb, eqb-true, not-true, or_cases, or_left, or_right}
 use Rattle.std.proofs.lemmas.Option.{same_Some}
 use Rattle.queue_name.specs.declared.message.Message.{Message}
 use Rattle.history_core.specs.declared.entry.Entry.{Entry}
-use Rattle.history_core.specs.declared.entry.Event.{Event}
-use Rattle.history_core.specs.declared.entry.Event.TheVariants.{Promoted, Begun}
-use Rattle.history_core.specs.History.{messages, path_of}
+use Rattle.history_core.specs.History.{messages}
 use Rattle.history_core.specs.Fate.{fate_of}
 use Rattle.history_core.specs.Events.{is_this}
-use Rattle.history_core.specs.Connection.{Connection, connections, busy_with, is_in_flight, ready_after, ready, is_ready_after, is_ready}
+use Rattle.history_core.specs.Connection.{Connection, connections, busy_with, is_in_flight, ready, is_ready}
 use Rattle.history_core.specs.Candidates.{has_pick, first_id, next_to_promote}
 use Rattle.history_core.specs.Openable.{Verdict, spent, shed, work, first_ready, verdict_at, verdict}
+use Rattle.history_core.proofs.Ready.{first_is_ready}
 
 Passes : (Message → Bool) → (Message → Bool) → ℕ → Type 0
 Passes p q id = (m : Message) × (p m ≡ true) × (q m ≡ true) × (m.id ≡ id)
@@ -78,53 +76,6 @@ of_connection h None id is = absurd cc
 of_connection h (Some c) id is =
     let (more, first) = first_ready-work (ready h c.path) id (past_limits _ _ _ id (same_Some _ _ is)) in
     (c.path, more, first)
-
--- the message is one of these
-abbrev Holds : List ℕ → ℕ → Type 0
-Holds ids id = list_any (λ i. eqb i id) ids ≡ true
-
-held_next : (i of id : ℕ) (rest : List ℕ) (b : Bool) → eqb i of ≡ b → (Holds (filter (λ j. not (eqb j of)) rest) id → (eqb of id ≡ false) × Holds rest id)
-    → Holds (cond (not b) (i ∷ filter (λ j. not (eqb j of)) rest) (filter (λ j. not (eqb j of)) rest)) id → (eqb of id ≡ false) × Holds (i ∷ rest) id
-held_next i of id rest true same later is = let (differs, there) = later is in (differs, or_right (eqb i id) _ there)
-held_next i of id rest false differs later is =
-    ⊎_elim
-    (λ here. (ne_eqb of id (λ same. eqb-false i of differs (eqb-true i id here ∙ sym same)), or_left (eqb i id) _ here))
-    (λ there. let (other, past) = later there in (other, or_right (eqb i id) _ past))
-    (or_cases (eqb i id) (list_any (λ j. eqb j id) (filter (λ j. not (eqb j of)) rest)) is)
-
--- what is left without one is another, and was there
-held_but : (ids : List ℕ) (of id : ℕ) → Holds (filter (λ j. not (eqb j of)) ids) id → (eqb of id ≡ false) × Holds ids id
-held_but [] of id is = absurd cc
-held_but (i ∷ ids) of id is = held_next i of id ids (eqb i of) refl (held_but ids of id) is
-
--- one more, where it goes there
-held_more : (mine : Bool) (was : List ℕ) (of id : ℕ) (b : Bool) → (Holds was id → b ≡ true) → Holds (cond mine (was ++ of ∷ []) was) id → (eqb of id || b) ≡ true
-held_more true was of id b k is =
-    ⊎_elim
-    (λ there. or_right (eqb of id) b (k there))
-    (λ last. ⊎_elim (λ here. or_left (eqb of id) b here) (λ none. absurd cc) (or_cases (eqb of id) false last))
-    (or_cases (list_any (λ i. eqb i id) was) (eqb of id || false) (sym (list_any-append (λ i. eqb i id) was (of ∷ [])) ∙ is))
-held_more false was of id b k is = or_right (eqb of id) b (k is)
-
--- a message that is ready on a path is ready, after each event if before it
-keeps_ready : (ms : List Message) (path : List ℕ) (id : ℕ) (was : List ℕ) (b : Bool) (e : Event) → (Holds was id → b ≡ true)
-    → Holds (ready_after ms path was e) id → is_ready_after id b e ≡ true
-keeps_ready ms path id was b (Promoted of source) k is = held_more (bytes_eq (path_of ms of source) path) was of id b k is
-keeps_ready ms path id was b (Begun conn of key) k is = let (differs, there) = held_but was of id is in ap (λ x. not x && b) differs ∙ k there
-keeps_ready ms path id was b _ k is = k is
-
-first_is_ready : (h : List Entry) (path : List ℕ) (id : ℕ) (more : List ℕ) → ready h path ≡ id ∷ more → is_ready h id ≡ true
-first_is_ready h path id more is =
-    fold_along
-    (λ was e. ready_after (messages h) path was e.what)
-    (λ was e. is_ready_after id was e.what)
-    (λ was b. Holds was id → b ≡ true)
-    (λ was b e k. keeps_ready (messages h) path id was b e.what k)
-    []
-    false
-    h
-    (λ none. none)
-    (subst (λ ids. Holds ids id) (sym is) (or_left (eqb id id) _ (eq-eqb id id refl)))
 
 -- the message that a connection is to attempt is ready
 pub verdict-ready : (h : List Entry) (conn id : ℕ) → verdict h conn ≡ Some (work id) → is_ready h id ≡ true
