@@ -1,5 +1,6 @@
 pub mod LegalLemmas
 pub mod OneMore
+pub mod Ready
 pub mod Picked
 pub mod Settling
 pub mod Numbers

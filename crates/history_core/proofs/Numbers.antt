@@ -3,16 +3,16 @@ use Rattle.std.proofs.Common.{◌≡◌, ◌≤◌, ◌<◌, ◌+◌, ⊎_elim, 
 use Rattle.std.specs.List.{list_any}
 use Rattle.std.proofs.lemmas.Bool.{cases_lt, eqb-true, or_parts}
 use Rattle.std.proofs.lemmas.List.{get_or_append_left, get_or_push}
-use Rattle.std.proofs.lemmas.List.Concat.{flat_map-append}
 use Rattle.std.proofs.lemmas.List.Elements.{filter-append}
 use Rattle.queue_name.specs.declared.message.Message.{Message}
 use Rattle.history_core.specs.declared.entry.Entry.{Entry}
 use Rattle.history_core.specs.declared.entry.Event.{Event}
-use Rattle.history_core.specs.declared.entry.Event.TheVariants.{Accepted, Promoted, Opened, Begun, Ended, Closed, Stopped}
-use Rattle.history_core.specs.History.{message_in, messages, has_id}
-use Rattle.history_core.specs.Connection.{Connection, connection_in, connections}
+use Rattle.history_core.specs.declared.entry.Event.TheVariants.{Accepted, Opened}
+use Rattle.history_core.specs.History.{messages, has_id}
+use Rattle.history_core.specs.Connection.{Connection, connections}
 use Rattle.history_core.specs.Legal.{Row, IsLegal}
 use Rattle.history_core.proofs.LegalLemmas.{IsLegal-induction}
+use Rattle.history_core.proofs.OneMore.{messages-more, connections-more}
 
 abbrev AreNumbered : List Connection → Type 0
 AreNumbered cs = (k : ℕ) (d : Connection) → k < length cs → (get_or cs k d).number ≡ k + 1
@@ -27,18 +27,9 @@ AreNumbered-push cs c last before k d within =
     ap (λ x. x.number) (get_or_push cs c d k here) ∙ last ∙ ap (λ n. n + 1) here)
     (cases_lt k (length cs))
 
-numbered_step : (h : List Entry) (at who : ℕ) (e : Event) → AreNumbered (connections h) → Row h who e → AreNumbered (connections h ++ connection_in (record { at = at; who = who; what = e }) e)
-numbered_step h at who (Accepted m) k row = subst AreNumbered (sym (append-nil (connections h))) k
-numbered_step h at who (Promoted id source) k row = subst AreNumbered (sym (append-nil (connections h))) k
+numbered_step : (h : List Entry) (at who : ℕ) (e : Event) → AreNumbered (connections h) → Row h who e → AreNumbered (connections h ++ connections (record { at = at; who = who; what = e } ∷ []))
 numbered_step h at who (Opened conn path key) k row = AreNumbered-push (connections h) _ row.1 k
-numbered_step h at who (Begun conn id key) k row = subst AreNumbered (sym (append-nil (connections h))) k
-numbered_step h at who (Ended conn id decided next) k row = subst AreNumbered (sym (append-nil (connections h))) k
-numbered_step h at who (Closed conn why) k row = subst AreNumbered (sym (append-nil (connections h))) k
-numbered_step h at who Stopped k row = subst AreNumbered (sym (append-nil (connections h))) k
-
-connections-push : (h : List Entry) (e : Entry) → connections (h ++ e ∷ []) ≡ connections h ++ connection_in e e.what
-connections-push h e =
-    flat_map-append (λ x. connection_in x x.what) h (e ∷ []) ∙ ap (λ cs. connections h ++ cs) (append-nil (connection_in e e.what))
+numbered_step h at who _ k row = subst AreNumbered (sym (append-nil (connections h))) k
 
 -- the connections of a legal history have the numbers 1, 2, 3 and so on, in the order of their opening
 pub connections-numbered : (h : List Entry) → IsLegal h → (k : ℕ) (d : Connection) → k < length (connections h) → (get_or (connections h) k d).number ≡ k + 1
@@ -46,7 +37,7 @@ connections-numbered h legal =
     IsLegal-induction
     (λ h. AreNumbered (connections h))
     (λ k d within. absurd (omega (arith, within)))
-    (λ h e k follows. subst AreNumbered (sym (connections-push h e)) (numbered_step h e.at e.who e.what k follows.row))
+    (λ h e k follows. subst AreNumbered (sym (connections-more h e)) (numbered_step h e.at e.who e.what k follows.row))
     h
     legal
 
@@ -71,17 +62,9 @@ AreOnce-push : (ms : List Message) (m : Message) → list_any (has_id m.id) ms �
 AreOnce-push ms m fresh before id =
     subst (λ xs. length xs ≤ 1) (sym (filter-append (has_id id) ms (m ∷ []))) (with_new m ms id (has_id id m) refl fresh (before id))
 
-once_step : (h : List Entry) (who : ℕ) (e : Event) → AreOnce (messages h) → Row h who e → AreOnce (messages h ++ message_in e)
-once_step h who (Accepted m) k row = AreOnce-push (messages h) m row k
-once_step h who (Promoted id source) k row = subst AreOnce (sym (append-nil (messages h))) k
-once_step h who (Opened conn path key) k row = subst AreOnce (sym (append-nil (messages h))) k
-once_step h who (Begun conn id key) k row = subst AreOnce (sym (append-nil (messages h))) k
-once_step h who (Ended conn id decided next) k row = subst AreOnce (sym (append-nil (messages h))) k
-once_step h who (Closed conn why) k row = subst AreOnce (sym (append-nil (messages h))) k
-once_step h who Stopped k row = subst AreOnce (sym (append-nil (messages h))) k
-
-messages-push : (h : List Entry) (e : Entry) → messages (h ++ e ∷ []) ≡ messages h ++ message_in e.what
-messages-push h e = flat_map-append (λ x. message_in x.what) h (e ∷ []) ∙ ap (λ ms. messages h ++ ms) (append-nil (message_in e.what))
+once_step : (h : List Entry) (at who : ℕ) (e : Event) → AreOnce (messages h) → Row h who e → AreOnce (messages h ++ messages (record { at = at; who = who; what = e } ∷ []))
+once_step h at who (Accepted m) k row = AreOnce-push (messages h) m row k
+once_step h at who _ k row = subst AreOnce (sym (append-nil (messages h))) k
 
 -- no id is accepted twice
 pub messages-once : (h : List Entry) → IsLegal h → (id : ℕ) → length (filter (has_id id) (messages h)) ≤ 1
@@ -89,6 +72,6 @@ messages-once h legal =
     IsLegal-induction
     (λ h. AreOnce (messages h))
     (λ id. omega arith)
-    (λ h e k follows. subst AreOnce (sym (messages-push h e)) (once_step h e.who e.what k follows.row))
+    (λ h e k follows. subst AreOnce (sym (messages-more h e)) (once_step h e.at e.who e.what k follows.row))
     h
     legal

@@ -1,89 +1,60 @@
--- What one more entry changes of fates, of what connections are busy with and of what is ready.
-use Rattle.std.proofs.Common.{◌≡◌, ℕ, List, [], ◌∷◌, ◌++◌, Bool, true, false, not, cond, ◌&&◌, ◌||◌, Option, Some, None, refl, ap, ◌∙◌, append-nil}
+-- What one more entry changes: one law for each list and each state of a history. At an entry whose event is known the
+-- right side computes.
+use Rattle.std.proofs.Common.{◌≡◌, ℕ, ◌+◌, List, [], ◌∷◌, ◌++◌, Bool, true, false, ◌||◌, None, fold, ap, ◌∙◌}
 use Rattle.std.specs.List.{list_any}
-use Rattle.std.proofs.lemmas.List.Elements.{filter-append}
+use Rattle.std.proofs.lemmas.Bool.{or_left}
+use Rattle.std.proofs.lemmas.List.Elements.{filter-append, filter_map-append}
 use Rattle.std.proofs.lemmas.List.Folds.{list_any-append}
-use Rattle.std.proofs.lemmas.List.Concat.{flat_map-append}
+use Rattle.std.proofs.lemmas.List.Sums.{fold-append, sum_by-append}
+use Rattle.queue_name.specs.declared.message.Message.{Message}
 use Rattle.history_core.specs.declared.entry.Entry.{Entry}
-use Rattle.history_core.specs.Fate.{settles, fate_of}
-use Rattle.history_core.specs.Connection.{Connection, connections, connection_in, begun_on, is_ended_on, last_begun, busy_with, takes, is_promotion_of, is_ready}
+use Rattle.history_core.specs.Events.{message_in, closed_in, is_stopped, settled_in, is_this}
+use Rattle.history_core.specs.History.{messages, has_stopped, last_moment}
+use Rattle.history_core.specs.Fate.{fate_of}
+use Rattle.history_core.specs.Connection.{Connection, connection_in, connections, is_closed, used, busy_after, busy_with, ready_after, ready_among, ready, is_ready_after, is_ready}
+use Rattle.history_core.specs.Openable.{rank_after, opened_rank}
 
--- an entry that does not settle the message
-pub fate_of-push : (h : List Entry) (e : Entry) (id : ℕ) → settles id e.what ≡ false → fate_of (h ++ e ∷ []) id ≡ fate_of h id
-fate_of-push h e id quiet =
-    filter-append (λ x. settles id x.what) h (e ∷ []) ∙ ap (λ b. fate_of h id ++ cond b (e ∷ []) []) quiet ∙ append-nil (fate_of h id)
+pub messages-more : (h : List Entry) (e : Entry) → messages (h ++ e ∷ []) ≡ messages h ++ messages (e ∷ [])
+messages-more h e = filter_map-append (λ x. message_in x.what) h (e ∷ [])
 
--- whatever the entry, at most it itself is added
-pub fate_of-more : (h : List Entry) (e : Entry) (id : ℕ) → fate_of (h ++ e ∷ []) id ≡ fate_of h id ++ cond (settles id e.what) (e ∷ []) []
-fate_of-more h e id = filter-append (λ x. settles id x.what) h (e ∷ [])
+pub has_stopped-more : (h : List Entry) (e : Entry) → has_stopped (h ++ e ∷ []) ≡ (has_stopped h || has_stopped (e ∷ []))
+has_stopped-more h e = list_any-append (λ x. is_stopped x.what) h (e ∷ [])
 
-any-push : {X : Type 0} (p : X → Bool) (xs : List X) (x : X) (b : Bool) → p x ≡ b → list_any p (xs ++ x ∷ []) ≡ (list_any p xs || (b || false))
-any-push p xs x b e = list_any-append p xs (x ∷ []) ∙ ap (λ t. list_any p xs || (t || false)) e
+pub last_moment-more : (h : List Entry) (e : Entry) → last_moment (h ++ e ∷ []) ≡ e.at
+last_moment-more h e = fold-append (λ was x. x.at) 0 h (e ∷ [])
 
-or-false : (b : Bool) → (b || (false || false)) ≡ b
-or-false true = refl
-or-false false = refl
+pub fate_of-more : (h : List Entry) (e : Entry) (id : ℕ) → fate_of (h ++ e ∷ []) id ≡ fate_of h id ++ fate_of (e ∷ []) id
+fate_of-more h e id = filter-append (λ x. is_this (settled_in x.what) id) h (e ∷ [])
 
-or-true : (b : Bool) → (b || (true || false)) ≡ true
-or-true true = refl
-or-true false = refl
+pub connections-more : (h : List Entry) (e : Entry) → connections (h ++ e ∷ []) ≡ connections h ++ connections (e ∷ [])
+connections-more h e = filter_map-append connection_in h (e ∷ [])
 
-any-push_false : {X : Type 0} (p : X → Bool) (xs : List X) (x : X) → p x ≡ false → list_any p (xs ++ x ∷ []) ≡ list_any p xs
-any-push_false p xs x e = any-push p xs x false e ∙ or-false (list_any p xs)
+pub is_closed-more : (h : List Entry) (e : Entry) (conn : ℕ) → is_closed (h ++ e ∷ []) conn ≡ (is_closed h conn || is_closed (e ∷ []) conn)
+is_closed-more h e conn = list_any-append (λ x. is_this (closed_in x.what) conn) h (e ∷ [])
 
-any-push_true : {X : Type 0} (p : X → Bool) (xs : List X) (x : X) → p x ≡ true → list_any p (xs ++ x ∷ []) ≡ true
-any-push_true p xs x e = any-push p xs x true e ∙ or-true (list_any p xs)
+pub used-more : (h : List Entry) (e : Entry) (conn : ℕ) → used (h ++ e ∷ []) conn ≡ used h conn + used (e ∷ []) conn
+used-more h e conn = sum_by-append _ h (e ∷ [])
 
-ended_none : (begun : Option ℕ) → last_begun None begun true ≡ None
-ended_none (Some id) = refl
-ended_none None = refl
+pub busy_with-more : (h : List Entry) (e : Entry) (conn : ℕ) → busy_with (h ++ e ∷ []) conn ≡ busy_after conn (busy_with h conn) e.what
+busy_with-more h e conn = fold-append (λ was x. busy_after conn was x.what) None h (e ∷ [])
 
--- an entry that neither begins nor ends an attempt on the connection
-pub busy_with-push : (h : List Entry) (e : Entry) (conn : ℕ) → begun_on conn e.what ≡ None → is_ended_on conn e.what ≡ false → busy_with (h ++ e ∷ []) conn ≡ busy_with h conn
-busy_with-push [] e conn begun ended = ap (λ b. last_begun None b false) begun
-busy_with-push (x ∷ h) e conn begun ended =
-    ap (λ o. last_begun o (begun_on conn x.what) (list_any (λ l. is_ended_on conn l.what) (h ++ e ∷ []))) (busy_with-push h e conn begun ended)
-    ∙ ap (λ b. last_begun (busy_with h conn) (begun_on conn x.what) b) (any-push_false (λ l. is_ended_on conn l.what) h e ended)
+pub is_ready-more : (h : List Entry) (e : Entry) (id : ℕ) → is_ready (h ++ e ∷ []) id ≡ is_ready_after id (is_ready h id) e.what
+is_ready-more h e id = fold-append (λ was x. is_ready_after id was x.what) false h (e ∷ [])
 
--- an attempt begins on the connection
-pub busy_with-begun : (h : List Entry) (e : Entry) (conn id : ℕ) → begun_on conn e.what ≡ Some id → busy_with (h ++ e ∷ []) conn ≡ Some id
-busy_with-begun [] e conn id begun = ap (λ b. last_begun None b false) begun
-busy_with-begun (x ∷ h) e conn id begun =
-    ap (λ o. last_begun o (begun_on conn x.what) (list_any (λ l. is_ended_on conn l.what) (h ++ e ∷ []))) (busy_with-begun h e conn id begun)
+pub ready_among-more : (ms : List Message) (path : List ℕ) (h : List Entry) (e : Entry)
+    → ready_among ms path (h ++ e ∷ []) ≡ ready_after ms path (ready_among ms path h) e.what
+ready_among-more ms path h e = fold-append (λ was x. ready_after ms path was x.what) [] h (e ∷ [])
 
--- an attempt ends on the connection
-pub busy_with-ended : (h : List Entry) (e : Entry) (conn : ℕ) → begun_on conn e.what ≡ None → is_ended_on conn e.what ≡ true → busy_with (h ++ e ∷ []) conn ≡ None
-busy_with-ended [] e conn begun ended = ap (λ b. last_begun None b false) begun
-busy_with-ended (x ∷ h) e conn begun ended =
-    ap (λ o. last_begun o (begun_on conn x.what) (list_any (λ l. is_ended_on conn l.what) (h ++ e ∷ []))) (busy_with-ended h e conn begun ended)
-    ∙ ap (λ b. last_begun None (begun_on conn x.what) b) (any-push_true (λ l. is_ended_on conn l.what) h e ended)
-    ∙ ended_none (begun_on conn x.what)
+-- where the entry accepts no message
+pub ready-more : (h : List Entry) (e : Entry) (path : List ℕ) → messages (h ++ e ∷ []) ≡ messages h
+    → ready (h ++ e ∷ []) path ≡ ready_after (messages h) path (ready h path) e.what
+ready-more h e path none = ap (λ ms. ready_among ms path (h ++ e ∷ [])) none ∙ ready_among-more (messages h) path h e
 
--- an entry that neither promotes nor takes the message
-pub is_ready-push : (h : List Entry) (e : Entry) (id : ℕ) → is_promotion_of id e.what ≡ false → takes id e.what ≡ false → is_ready (h ++ e ∷ []) id ≡ is_ready h id
-is_ready-push [] e id promoted taken = ap (λ b. (b && true) || false) promoted
-is_ready-push (x ∷ h) e id promoted taken =
-    ap (λ b. (is_promotion_of id x.what && not b) || is_ready (h ++ e ∷ []) id) (any-push_false (λ l. takes id l.what) h e taken)
-    ∙ ap (λ b. (is_promotion_of id x.what && not (list_any (λ l. takes id l.what) h)) || b) (is_ready-push h e id promoted taken)
-
-and-false : (b : Bool) → ((b && false) || false) ≡ false
-and-false true = refl
-and-false false = refl
-
--- an attempt of the message begins
-pub is_ready-taken : (h : List Entry) (e : Entry) (id : ℕ) → is_promotion_of id e.what ≡ false → takes id e.what ≡ true → is_ready (h ++ e ∷ []) id ≡ false
-is_ready-taken [] e id promoted taken = ap (λ b. (b && true) || false) promoted
-is_ready-taken (x ∷ h) e id promoted taken =
-    ap (λ b. (is_promotion_of id x.what && not b) || is_ready (h ++ e ∷ []) id) (any-push_true (λ l. takes id l.what) h e taken)
-    ∙ ap (λ b. (is_promotion_of id x.what && false) || b) (is_ready-taken h e id promoted taken)
-    ∙ and-false (is_promotion_of id x.what)
-
-or_left : (a b : Bool) → a ≡ true → (a || b) ≡ true
-or_left a b e = ap (λ t. t || b) e
+pub opened_rank-more : (h : List Entry) (e : Entry) (path : List ℕ)
+    → opened_rank (h ++ e ∷ []) path ≡ fold (rank_after path) (opened_rank h path) (connections (e ∷ []))
+opened_rank-more h e path = ap (fold (rank_after path) 0) (connections-more h e) ∙ fold-append (rank_after path) 0 (connections h) (connections (e ∷ []))
 
 -- a connection that was opened stays so
 pub connections-kept : (h : List Entry) (e : Entry) (p : Connection → Bool) → list_any p (connections h) ≡ true → list_any p (connections (h ++ e ∷ [])) ≡ true
 connections-kept h e p there =
-    ap (list_any p) (flat_map-append (λ x. connection_in x x.what) h (e ∷ []))
-    ∙ list_any-append p (connections h) (connections (e ∷ []))
-    ∙ or_left (list_any p (connections h)) (list_any p (connections (e ∷ []))) there
+    ap (list_any p) (connections-more h e) ∙ list_any-append p (connections h) (connections (e ∷ [])) ∙ or_left _ (list_any p (connections (e ∷ []))) there

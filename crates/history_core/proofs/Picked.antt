@@ -1,17 +1,17 @@
 -- What is known of the message that is promoted next, and of the one that is attempted next.
-use Rattle.std.proofs.Common.{◌≡◌, ◌⊎◌, inl, inr, ⊎_elim, ℕ, List, [], ◌∷◌, ◌++◌, Bool, true, false, not, cond, ◌&&◌, ◌||◌, Option, Some, None, length, filter, eqb, bytes_eq, arith, refl, ap, subst, ◌∙◌}
+use Rattle.std.proofs.Common.{◌≡◌, ⊎_elim, ℕ, List, [], ◌∷◌, Bool, true, false, not, cond, ◌&&◌, Option, Some, None, length, filter, eqb, arith, refl, ap, subst, ◌∙◌}
 use Rattle.std.specs.List.{list_any}
 use Rattle.std.proofs.lemmas.Bool.{and_parts, both_ways, eq-eqb, eqb-true, not-true, or_cases, or_left, or_right}
 use Rattle.std.proofs.lemmas.Option.{same_Some}
 use Rattle.queue_name.specs.declared.message.Message.{Message}
 use Rattle.history_core.specs.declared.entry.Entry.{Entry}
-use Rattle.history_core.specs.declared.entry.Event.{Event}
-use Rattle.history_core.specs.declared.entry.Event.TheVariants.{Accepted, Promoted, Opened, Begun, Ended, Closed, Stopped}
-use Rattle.history_core.specs.History.{messages, path_of}
+use Rattle.history_core.specs.History.{messages}
 use Rattle.history_core.specs.Fate.{fate_of}
-use Rattle.history_core.specs.Connection.{Connection, connections, busy_with, is_this, is_in_flight, takes, is_promotion_of, is_ready, promoted_to, unless_taken, ready_among, ready}
+use Rattle.history_core.specs.Events.{is_this}
+use Rattle.history_core.specs.Connection.{Connection, connections, busy_with, is_in_flight, ready, is_ready}
 use Rattle.history_core.specs.Candidates.{has_pick, first_id, next_to_promote}
 use Rattle.history_core.specs.Openable.{Verdict, spent, shed, work, first_ready, verdict_at, verdict}
+use Rattle.history_core.proofs.Ready.{first_is_ready}
 
 Passes : (Message → Bool) → (Message → Bool) → ℕ → Type 0
 Passes p q id = (m : Message) × (p m ≡ true) × (q m ≡ true) × (m.id ≡ id)
@@ -77,48 +77,8 @@ of_connection h (Some c) id is =
     let (more, first) = first_ready-work (ready h c.path) id (past_limits _ _ _ id (same_Some _ _ is)) in
     (c.path, more, first)
 
-if_promoted : (b : Bool) (i id : ℕ) → cond b (Some i) None ≡ Some id → i ≡ id
-if_promoted true i id is = same_Some _ _ is
-if_promoted false i id is = absurd cc
-
-promoted_to-promotion : (ms : List Message) (path : List ℕ) (e : Event) (id : ℕ) → promoted_to ms path e ≡ Some id → is_promotion_of id e ≡ true
-promoted_to-promotion ms path (Accepted m) id is = absurd cc
-promoted_to-promotion ms path (Promoted i source) id is = eq-eqb i id (if_promoted (bytes_eq (path_of ms i source) path) i id is)
-promoted_to-promotion ms path (Opened conn p key) id is = absurd cc
-promoted_to-promotion ms path (Begun conn i key) id is = absurd cc
-promoted_to-promotion ms path (Ended conn i outcome next) id is = absurd cc
-promoted_to-promotion ms path (Closed conn cause) id is = absurd cc
-promoted_to-promotion ms path Stopped id is = absurd cc
-
-IsHere : Option ℕ → List Entry → ℕ → Type 0
-IsHere o later id = (o ≡ Some id) × (list_any (λ e. takes id e.what) later ≡ false)
-
-by_taken : (i : ℕ) (later : List Entry) (rest : List ℕ) (id : ℕ) (more : List ℕ) (b : Bool)
-    → list_any (λ e. takes i e.what) later ≡ b → cond b [] (i ∷ []) ++ rest ≡ id ∷ more → IsHere (Some i) later id ⊎ (rest ≡ id ∷ more)
-unfolding IsHere
-by_taken i later rest id more true taken is = inr is
-by_taken i later rest id more false taken is =
-    let same : i ≡ id = cc in
-    inl (ap Some same, subst (λ j. list_any (λ e. takes j e.what) later ≡ false) same taken)
-
-first_here : (o : Option ℕ) (later : List Entry) (rest : List ℕ) (id : ℕ) (more : List ℕ) → unless_taken o later ++ rest ≡ id ∷ more → IsHere o later id ⊎ (rest ≡ id ∷ more)
-first_here None later rest id more is = inr is
-first_here (Some i) later rest id more is = by_taken i later rest id more (list_any (λ e. takes i e.what) later) refl is
-
-both : (a b rest : Bool) → a ≡ true → b ≡ false → ((a && not b) || rest) ≡ true
-both a b rest e f = ap (λ a. (a && not b) || rest) e ∙ ap (λ b. (true && not b) || rest) f
-
-ready_among-is_ready : (ms : List Message) (path : List ℕ) (h : List Entry) (id : ℕ) (more : List ℕ) → ready_among ms path h ≡ id ∷ more → is_ready h id ≡ true
-unfolding IsHere
-ready_among-is_ready ms path [] id more is = absurd cc
-ready_among-is_ready ms path (e ∷ later) id more is =
-    ⊎_elim
-    (λ here. both _ _ _ (promoted_to-promotion ms path e.what id here.0) here.1)
-    (λ there. or_right _ _ (ready_among-is_ready ms path later id more there))
-    (first_here (promoted_to ms path e.what) later (ready_among ms path later) id more is)
-
 -- the message that a connection is to attempt is ready
 pub verdict-ready : (h : List Entry) (conn id : ℕ) → verdict h conn ≡ Some (work id) → is_ready h id ≡ true
 verdict-ready h conn id is =
     let (path, more, first) = of_connection h _ id is in
-    ready_among-is_ready (messages h) path h id more first
+    first_is_ready h path id more first

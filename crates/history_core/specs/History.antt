@@ -1,24 +1,14 @@
 -- A history is a list of entries, the oldest first.
-use Rattle.std.specs.Prelude.{ℕ, ◌==◌, List, [], ◌∷◌, Bool, true, false, Option, position, flat_map, fold, if◌then◌else◌}
+use Rattle.std.specs.Prelude.{ℕ, ◌==◌, List, [], ◌∷◌, Bool, Option, position, filter_map, fold, if◌then◌else◌}
 use Rattle.std.specs.List.{list_any}
 use Rattle.queue_name.specs.declared.message.Message.{Message}
 use Rattle.policy_core.specs.PathTables.{path_text}
 use Rattle.history_core.specs.declared.entry.Entry.{Entry}
-use Rattle.history_core.specs.declared.entry.Event.{Event}
-use Rattle.history_core.specs.declared.entry.Event.TheVariants.{Accepted, Promoted, Opened, Begun, Ended, Closed, Stopped}
-
-abbrev pub message_in : Event → List Message
-message_in (Accepted m) = m ∷ []
-message_in (Promoted id source) = []
-message_in (Opened conn path key) = []
-message_in (Begun conn id key) = []
-message_in (Ended conn id outcome next) = []
-message_in (Closed conn cause) = []
-message_in Stopped = []
+use Rattle.history_core.specs.Events.{message_in, is_stopped}
 
 -- the messages that were accepted, in order
 abbrev pub messages : List Entry → List Message
-messages h = flat_map (λ e. message_in e.what) h
+messages h = filter_map (λ e. message_in e.what) h
 
 abbrev pub has_id : ℕ → Message → Bool
 has_id id m = m.id == id
@@ -26,15 +16,6 @@ has_id id m = m.id == id
 -- the number of a message: its place among the accepted ones, from 0
 abbrev pub number_of : List Entry → ℕ → Option ℕ
 number_of h id = position (has_id id) (messages h)
-
-abbrev pub is_stopped : Event → Bool
-is_stopped (Accepted m) = false
-is_stopped (Promoted id source) = false
-is_stopped (Opened conn path key) = false
-is_stopped (Begun conn id key) = false
-is_stopped (Ended conn id outcome next) = false
-is_stopped (Closed conn cause) = false
-is_stopped Stopped = true
 
 abbrev pub has_stopped : List Entry → Bool
 has_stopped h = list_any (λ e. is_stopped e.what) h

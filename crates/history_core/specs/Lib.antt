@@ -1,3 +1,4 @@
+pub mod Events
 pub mod History
 pub mod Fate
 pub mod Connection

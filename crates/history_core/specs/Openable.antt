@@ -1,21 +1,16 @@
 -- Which path may open a connection next, and what a connection may do next.
-use Rattle.std.specs.Prelude.{ℕ, ◌+◌, ◌==◌, nat_lt, nat_le, List, [], ◌∷◌, Bool, not, ◌&&◌, Option, Some, None, length, filter, find, flat_map, fold, bytes_eq, if◌then◌else◌}
+use Rattle.std.specs.Prelude.{ℕ, ◌+◌, ◌==◌, nat_lt, nat_le, List, [], ◌∷◌, Bool, not, ◌&&◌, Option, Some, None, length, option_map, filter, filter_map, find, fold, bytes_eq, if◌then◌else◌}
 use Rattle.queue_name.specs.declared.message.Message.{Message}
 use Rattle.history_core.specs.declared.entry.Entry.{Entry}
 use Rattle.history_core.specs.declared.entry.Event.{Event}
-use Rattle.history_core.specs.declared.entry.Event.TheVariants.{Accepted, Promoted, Opened, Begun, Ended, Closed, Stopped}
 use Rattle.policy_core.specs.Limits.{default_connection_limit, default_max_deliveries}
+use Rattle.history_core.specs.Events.{promotion_in}
 use Rattle.history_core.specs.History.{messages, path_of}
 use Rattle.history_core.specs.Connection.{Connection, connections, open_connections, used, ready}
 
-abbrev pub path_in : List Message → Event → List (List ℕ)
-path_in ms (Accepted m) = []
-path_in ms (Promoted id source) = path_of ms id source ∷ []
-path_in ms (Opened conn path key) = []
-path_in ms (Begun conn id key) = []
-path_in ms (Ended conn id outcome next) = []
-path_in ms (Closed conn cause) = []
-path_in ms Stopped = []
+-- the path that a message is promoted to
+abbrev pub path_in : List Message → Event → Option (List ℕ)
+path_in ms e = option_map (λ p. path_of ms p.id p.source) (promotion_in e)
 
 -- each text once, at its first place
 abbrev pub distinct : List (List ℕ) → List (List ℕ)
@@ -24,15 +19,19 @@ distinct (path ∷ paths) = path ∷ filter (λ p. not (bytes_eq p path)) (disti
 
 -- the paths that messages were promoted to, in order of their first promotion
 abbrev pub paths : List Entry → List (List ℕ)
-paths h = distinct (flat_map (λ e. path_in (messages h) e.what) h)
+paths h = distinct (filter_map (λ e. path_in (messages h) e.what) h)
 
 -- fewer open connections than the limit, and a ready message
 abbrev pub is_openable : List Entry → List ℕ → Bool
 is_openable h path = nat_lt (length (open_connections h path)) default_connection_limit && nat_lt 0 (length (ready h path))
 
+-- the rank of a path after a connection: one more than the moment of its opening, where it is of the path
+abbrev pub rank_after : List ℕ → ℕ → Connection → ℕ
+rank_after path was c = if bytes_eq c.path path then c.at + 1 else was
+
 -- one more than the moment of the path's last Opened, 0 where it was never opened
 abbrev pub opened_rank : List Entry → List ℕ → ℕ
-opened_rank h path = fold (λ was c. if bytes_eq c.path path then c.at + 1 else was) 0 (connections h)
+opened_rank h path = fold (rank_after path) 0 (connections h)
 
 abbrev pub lesser : (List ℕ → ℕ) → List ℕ → Option (List ℕ) → Option (List ℕ)
 lesser rank path None = Some path

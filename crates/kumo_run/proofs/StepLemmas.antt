@@ -27,7 +27,7 @@ pub may_promote : (m : Message) → MayFollow (accepted m) (entry (event.Promote
 may_promote m = record { running = refl; proper = record { moment = omega arith; event = tt }; later = omega arith; row = (refl, refl) }
 
 pub may_open : (m : Message) → MayFollow (promoted m) (entry (event.Opened 1 (path_to m) 0))
-may_open m = record { running = refl; proper = record { moment = omega arith; event = tt }; later = omega arith; row = (simp (same_number m.id, same_text m.name.domain), refl, simp (same_number m.id, same_text m.name.domain), refl) }
+may_open m = record { running = refl; proper = record { moment = omega arith; event = tt }; later = omega arith; row = (simp (same_number m.id), refl, simp (same_number m.id, same_text m.name.domain), refl) }
 
 pub may_begin : (m : Message) → MayFollow (opened m) (entry (event.Begun 1 m.id 0))
 may_begin m = record { running = refl; proper = record { moment = omega arith; event = tt }; later = omega arith; row = (refl, refl, simp (same_number m.id, same_text m.name.domain), refl) }

@@ -1,30 +1,20 @@
 -- A run that went to its end.
-use Rattle.std.specs.Prelude.{◌≡◌, ℕ, List, [], ◌∷◌, ◌++◌, Bool, true, All, length, flat_map, fold, false}
+use Rattle.std.specs.Prelude.{◌≡◌, ℕ, List, [], ◌∷◌, ◌++◌, Bool, true, All, length, filter_map, fold, false}
 use Rattle.queue_name.specs.declared.message.Message.{Message}
 use Rattle.kumo_outside.specs.declared.session.Session.{Session}
 use Rattle.smtp_reply.specs.declared.reply.Reply.{Reply}
 use Rattle.smtp_reply.specs.declared.reply.Outcome.{Outcome}
 use Rattle.smtp_reply.specs.declared.reply.Outcome.TheVariants.{Delivered}
 use Rattle.history_core.specs.declared.entry.Entry.{Entry}
-use Rattle.history_core.specs.declared.entry.Event.{Event}
-use Rattle.history_core.specs.declared.entry.Event.TheVariants.{Accepted, Promoted, Opened, Begun, Ended, Closed, Stopped}
-use Rattle.history_core.specs.History.{messages, is_stopped}
+use Rattle.history_core.specs.Events.{ended_in, is_stopped}
+use Rattle.history_core.specs.History.{messages}
 use Rattle.history_core.specs.Fate.{fate_of, pending}
 use Rattle.history_core.specs.Legal.{IsLegal}
 use Rattle.kumo_run.specs.Delivery.{IsSessionOf, IsDeliveredBy}
 
-abbrev pub outcome_in : Event → List Outcome
-outcome_in (Accepted m) = []
-outcome_in (Promoted id source) = []
-outcome_in (Opened conn path key) = []
-outcome_in (Begun conn id key) = []
-outcome_in (Ended conn id outcome next) = outcome ∷ []
-outcome_in (Closed conn cause) = []
-outcome_in Stopped = []
-
 -- what became of the attempts, in the order in which they ended
 abbrev pub outcomes : List Entry → List Outcome
-outcomes h = flat_map (λ e. outcome_in e.what) h
+outcomes h = filter_map (λ e. ended_in e.what) h
 
 abbrev pub ends_with_stopped : List Entry → Bool
 ends_with_stopped h = fold (λ was e. is_stopped e.what) false h
