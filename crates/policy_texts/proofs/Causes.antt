@@ -16,12 +16,11 @@ pub rose_since : (a b c : ℕ) → a ≤ b → Rose b c → Rose a c
 rose_since a b c p h = omega arith
 
 -- for the same cause among more reasons
-pub cause_as : (P Q : Stop → Type 0) (a b : Counts) (f : LoadFault) → ((stop : Stop) → P stop → Q stop)
+pub cause_as : (P Q : Stop → Type 0) (a b : Counts) (f : LoadFault) → ((stop : Stop) → P stop → Q stop) → HasCauseIn P a f
     → (Rose a.texts_before a.texts_after → Rose b.texts_before b.texts_after)
-    → (Rose a.search_before a.search_after → Rose b.search_before b.search_after)
-    → HasCauseIn P a f → HasCauseIn Q b f
-cause_as P Q a b (load_fault.Refused f table key why) up texts search h = up (refused (At f table key why)) h
-cause_as P Q a b load_fault.Limit up texts search h = up too_long h
-cause_as P Q a b load_fault.ReadFault up texts search h = texts h
-cause_as P Q a b load_fault.SearchFault up texts search h = search h
-cause_as P Q a b load_fault.Memory up texts search h = tt
+    → (Rose a.search_before a.search_after → Rose b.search_before b.search_after) → HasCauseIn Q b f
+cause_as P Q a b (load_fault.Refused f table key why) up h by_texts by_search = up (refused (At f table key why)) h
+cause_as P Q a b load_fault.Limit up h by_texts by_search = up too_long h
+cause_as P Q a b load_fault.ReadFault up h by_texts by_search = by_texts h
+cause_as P Q a b load_fault.SearchFault up h by_texts by_search = by_search h
+cause_as P Q a b load_fault.Memory up h by_texts by_search = tt

@@ -13,9 +13,9 @@ use Rattle.mx_table.specs.MxText.{LineFault, Joins, IsMxOf, IsMxRefusal, reporte
 use Rattle.kumo_base.specs.Causes.{Rose}
 use Rattle.kumo_outside.specs.Reading.{IsReadUpTo}
 use Rattle.kumo_outside.specs.declared.text_reader.TheConstants.{TEXT_LIMIT}
-use Rattle.policy_texts.specs.Texts.{Stop, too_long, refused, read_by, Comes}
-use Rattle.policy_texts.specs.Policies.{HasCauseIn}
-use Rattle.policy_texts.specs.LoadCauses.{load_fault_of, no_counts, search_counts}
+use Rattle.policy_texts.specs.Texts.{Stop, too_long, refused, read_by}
+use Rattle.policy_texts.specs.Policies.{HasCauseIn, load_fault_of}
+use Rattle.policy_texts.specs.inside.Stages.{Comes, no_counts, search_counts}
 
 -- bytes that are too many
 pub too_many : {A F : Type 0} (report : F → PolicyFault) (read : List ℕ → Result A F) (text : List ℕ) → TEXT_LIMIT < length text → read_by report read text ≡ Err too_long
@@ -69,5 +69,5 @@ same_given report read text bytes h =
 
 pub told_as : {A F : Type 0} (report : F → PolicyFault) (read : List ℕ → Result A F) (told : Option (List ℕ)) (bytes : List ℕ) (what : Result A Stop)
     → IfSome told (λ text. IsReadUpTo TEXT_LIMIT text bytes) → read_by report read bytes ≡ what → Comes (read_by report read) told what
-told_as report read None bytes what up e = tt
-told_as report read (Some text) bytes what up e = same_given report read text bytes up ∙ e
+told_as report read None bytes what up e = (bytes, tt, e)
+told_as report read (Some text) bytes what up e = (text, refl, same_given report read text bytes up ∙ e)

@@ -1,5 +1,5 @@
 pub mod Texts
 pub mod Policies
-pub mod LoadCauses
 pub mod Report
 pub mod Explained
+pub mod inside

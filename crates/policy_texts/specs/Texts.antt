@@ -40,10 +40,6 @@ abbrev pub told_by : (List ℕ → Option (List ℕ)) → Option (List ℕ) → 
 told_by told None = Some []
 told_by told (Some name) = told name
 
--- where a text is told, it comes to this
-abbrev pub Comes : {A : Type 0} → (List ℕ → Result A Stop) → Option (List ℕ) → Result A Stop → Type 0
-Comes read told what = IfSome told (λ text. read text ≡ what)
-
--- where a text is told, it gives something of which this holds
-abbrev pub Gives : {A : Type 0} → (List ℕ → Result A Stop) → Option (List ℕ) → (A → Type 0) → Type 0
-Gives {A} read told P = (a : A) × Comes read told (Ok a) × P a
+-- the text is the one that is told, or none is told
+abbrev pub MayBe : Option (List ℕ) → List ℕ → Type 0
+MayBe told text = IfSome told (λ known. text ≡ known)

@@ -5,8 +5,8 @@ ghost use Rattle.policy_core.specs.Policy.{has_pool, are_entrants_sources, are_s
 ghost use Rattle.policy_core.specs.Mx.{are_hosts_named};
 ghost use Rattle.policy_core.specs.Limits.{unspecified};
 ghost use Rattle.command_words.specs.Told.{seen_names};
-ghost use Rattle.policy_texts.specs.Policies.{Loads, Stops, StopsAtPools, HasCauseIn};
-ghost use Rattle.policy_texts.specs.LoadCauses.{no_counts};
+ghost use Rattle.policy_texts.specs.Policies.{Loads, Stops, HasCauseIn, counts_of};
+ghost use Rattle.policy_texts.specs.inside.Stages.{StopsAtPools, no_counts};
 
 use crate::stages::{take_mx, take_queues, take_shaping, take_sources};
 use command_words::PolicyNames;
@@ -65,7 +65,7 @@ impl<T: Drop> From<AllocFailed<T>> for LoadFault {
 }
 
 impl From<PolicyFault> for LoadFault {
-    ghost use Rattle.policy_texts.specs.LoadCauses.{load_fault_of};
+    ghost use Rattle.policy_texts.specs.Policies.{load_fault_of};
 
     ghost from_gives = { λ refusal fault. fault ≡ load_fault_of refusal };
 
@@ -105,7 +105,8 @@ pub fn load_policy<T: Texts, S: Search>(
     search: &mut S,
 ) -> Result<PolicyTexts, LoadFault>
     ensures ok { IfOk result (λ loaded. Loads (T.seen texts.old).told (seen_names names.now) loaded.policy loaded.ignored.items) }
-    ensures err { IfErr result (λ fault. HasCauseIn (Stops (T.seen texts.old).told (seen_names names.now)) (record { texts_before = (T.seen texts.old).faults; texts_after = (T.seen texts.new).faults; search_before = (S.seen search.old).faults; search_after = (S.seen search.new).faults }) fault) }
+    ensures err { IfErr result (λ fault. HasCauseIn (Stops (T.seen texts.old).told (seen_names names.now))
+        (counts_of (T.seen texts.old) (T.seen texts.new) (S.seen search.old) (S.seen search.new)) fault) }
     ensures told { (T.seen texts.new).told ≡ (T.seen texts.old).told }
     ensures texts { (T.seen texts.old).faults ≤ (T.seen texts.new).faults }
     ensures search { (S.seen search.old).faults ≤ (S.seen search.new).faults }
@@ -132,9 +133,10 @@ fn assembled(
     requires entrants { IsTrue (are_entrants_sources sources) }
     requires source_names { IsTrue (are_sources_named sources) }
     requires hosts { IsTrue (are_hosts_named mx) }
-    ensures ok { IfOk result (λ policy. policy ≡ record { sources = sources; queues = queues; shaping = shaping; mx = mx; stops = latest_moment ∷ [] }) }
+    ensures ok { IfOk result (λ policy.
+        policy ≡ record { sources = sources; queues = queues; shaping = shaping; mx = mx; stops = latest_moment ∷ [] }) }
     ensures known { IfOk result (λ policy. unknown_pool sources queues ≡ None) }
-    ensures err { IfErr result (λ fault. HasCauseIn (StopsAtPools (record { sources = sources; ignored = [] }) (record { queues = queues; ignored = [] })) no_counts fault) }
+    ensures err { IfErr result (λ fault. HasCauseIn (StopsAtPools sources queues) no_counts fault) }
 {
     let stops = vec![in alloc; LAST_MOMENT]?;
     Ok(Policy::assemble(alloc, sources, queues, shaping, mx, stops)?)

@@ -1,5 +1,5 @@
 //! One policy text after another: the bytes of its name, and what they give.
-ghost use Rattle.std.specs.Prelude.{◌≡◌, ◌≤◌, List, IsTrue, Ok, Err, IfOk, IfErr, IfSome, option_map};
+ghost use Rattle.std.specs.Prelude.{◌≡◌, ◌≤◌, List, IsTrue, Ok, Err, IfOk, IfErr, IfSome};
 ghost use Rattle.kumo_outside.specs.Reading.{IsReadUpTo};
 ghost use Rattle.kumo_outside.specs.declared.text_reader.TheConstants.{TEXT_LIMIT};
 ghost use Rattle.policy_core.specs.Policy.{has_pool, are_entrants_sources, are_sources_named};
@@ -7,9 +7,9 @@ ghost use Rattle.policy_core.specs.Mx.{are_hosts_named};
 ghost use Rattle.policy_core.specs.Limits.{unspecified};
 ghost use Rattle.policy_core.specs.declared.mx.MxRow.{MxRow};
 ghost use Rattle.mx_table.specs.MxText.{Joins};
-ghost use Rattle.policy_texts.specs.Texts.{sources_given, queues_given, shaping_given, mx_given, told_by, Comes, Gives};
-ghost use Rattle.policy_texts.specs.Policies.{HasCauseIn};
-ghost use Rattle.policy_texts.specs.LoadCauses.{no_counts, texts_counts, search_counts};
+ghost use Rattle.policy_texts.specs.Texts.{sources_given, queues_given, shaping_given, mx_given};
+ghost use Rattle.policy_texts.specs.Policies.{HasCauseIn, counts_of};
+ghost use Rattle.policy_texts.specs.inside.Stages.{told_under, Comes, no_counts, texts_counts, search_counts};
 
 use crate::load::LoadFault;
 use kumo_base::Bytes;
@@ -27,11 +27,14 @@ pub(crate) fn take_sources<T: Texts>(
     texts: &mut T,
     name: Option<&str>,
 ) -> Result<(Sources, Vec<Ignored>), LoadFault>
-    ensures ok { IfOk result (λ r. Comes sources_given (told_by (T.seen texts.old).told (option_map (λ s. s.now) name.entry)) (Ok (record { sources = r.0; ignored = r.1.items }))) }
+    ensures ok { IfOk result (λ r. Comes sources_given (told_under (T.seen texts.old) name.entry)
+        (Ok (record { sources = r.0; ignored = r.1.items }))) }
     ensures base { IfOk result (λ r. IsTrue (has_pool r.0 unspecified)) }
     ensures entrants { IfOk result (λ r. IsTrue (are_entrants_sources r.0)) }
     ensures source_names { IfOk result (λ r. IsTrue (are_sources_named r.0)) }
-    ensures err { IfErr result (λ fault. HasCauseIn (λ stop. Comes sources_given (told_by (T.seen texts.old).told (option_map (λ s. s.now) name.entry)) (Err stop)) (texts_counts (T.seen texts.old).faults (T.seen texts.new).faults) fault) }
+    ensures err { IfErr result (λ fault. HasCauseIn
+        (λ stop. Comes sources_given (told_under (T.seen texts.old) name.entry) (Err stop))
+        (texts_counts (T.seen texts.old).faults (T.seen texts.new).faults) fault) }
     ensures told { (T.seen texts.new).told ≡ (T.seen texts.old).told }
     ensures later { (T.seen texts.old).faults ≤ (T.seen texts.new).faults }
 {
@@ -45,8 +48,11 @@ pub(crate) fn take_queues<T: Texts>(
     texts: &mut T,
     name: Option<&str>,
 ) -> Result<(Queues, Vec<Ignored>), LoadFault>
-    ensures ok { IfOk result (λ r. Comes queues_given (told_by (T.seen texts.old).told (option_map (λ s. s.now) name.entry)) (Ok (record { queues = r.0; ignored = r.1.items }))) }
-    ensures err { IfErr result (λ fault. HasCauseIn (λ stop. Comes queues_given (told_by (T.seen texts.old).told (option_map (λ s. s.now) name.entry)) (Err stop)) (texts_counts (T.seen texts.old).faults (T.seen texts.new).faults) fault) }
+    ensures ok { IfOk result (λ r. Comes queues_given (told_under (T.seen texts.old) name.entry)
+        (Ok (record { queues = r.0; ignored = r.1.items }))) }
+    ensures err { IfErr result (λ fault. HasCauseIn
+        (λ stop. Comes queues_given (told_under (T.seen texts.old) name.entry) (Err stop))
+        (texts_counts (T.seen texts.old).faults (T.seen texts.new).faults) fault) }
     ensures told { (T.seen texts.new).told ≡ (T.seen texts.old).told }
     ensures later { (T.seen texts.old).faults ≤ (T.seen texts.new).faults }
 {
@@ -61,8 +67,11 @@ pub(crate) fn take_shaping<T: Texts, S: Search>(
     name: Option<&str>,
     search: &mut S,
 ) -> Result<(Shaping, Vec<Ignored>), LoadFault>
-    ensures ok { IfOk result (λ r. Comes shaping_given (told_by (T.seen texts.old).told (option_map (λ s. s.now) name.entry)) (Ok (record { shaping = r.0; ignored = r.1.items }))) }
-    ensures err { IfErr result (λ fault. HasCauseIn (λ stop. Comes shaping_given (told_by (T.seen texts.old).told (option_map (λ s. s.now) name.entry)) (Err stop)) (record { texts_before = (T.seen texts.old).faults; texts_after = (T.seen texts.new).faults; search_before = (S.seen search.old).faults; search_after = (S.seen search.new).faults }) fault) }
+    ensures ok { IfOk result (λ r. Comes shaping_given (told_under (T.seen texts.old) name.entry)
+        (Ok (record { shaping = r.0; ignored = r.1.items }))) }
+    ensures err { IfErr result (λ fault. HasCauseIn
+        (λ stop. Comes shaping_given (told_under (T.seen texts.old) name.entry) (Err stop))
+        (counts_of (T.seen texts.old) (T.seen texts.new) (S.seen search.old) (S.seen search.new)) fault) }
     ensures told { (T.seen texts.new).told ≡ (T.seen texts.old).told }
     ensures later { (T.seen texts.old).faults ≤ (T.seen texts.new).faults }
     ensures searched { (S.seen search.old).faults ≤ (S.seen search.new).faults }
@@ -77,9 +86,12 @@ pub(crate) fn take_mx<T: Texts>(
     texts: &mut T,
     name: Option<&str>,
 ) -> Result<MxTable, LoadFault>
-    ensures ok { IfOk result (λ table. Gives mx_given (told_by (T.seen texts.old).told (option_map (λ s. s.now) name.entry)) (λ rows. Joins table rows)) }
+    ensures ok { IfOk result (λ table. (rows : List MxRow)
+        × Comes mx_given (told_under (T.seen texts.old) name.entry) (Ok rows) × Joins table rows) }
     ensures hosts { IfOk result (λ table. IsTrue (are_hosts_named table)) }
-    ensures err { IfErr result (λ fault. HasCauseIn (λ stop. Comes mx_given (told_by (T.seen texts.old).told (option_map (λ s. s.now) name.entry)) (Err stop)) (texts_counts (T.seen texts.old).faults (T.seen texts.new).faults) fault) }
+    ensures err { IfErr result (λ fault. HasCauseIn
+        (λ stop. Comes mx_given (told_under (T.seen texts.old) name.entry) (Err stop))
+        (texts_counts (T.seen texts.old).faults (T.seen texts.new).faults) fault) }
     ensures told { (T.seen texts.new).told ≡ (T.seen texts.old).told }
     ensures later { (T.seen texts.old).faults ≤ (T.seen texts.new).faults }
 {
@@ -93,8 +105,10 @@ fn read_named<T: Texts>(
     texts: &mut T,
     name: Option<&str>,
 ) -> Result<Bytes, LoadFault>
-    ensures ok { IfSome (told_by (T.seen texts.old).told (option_map (λ s. s.now) name.entry)) (λ text. IfOk result (λ read. IsReadUpTo TEXT_LIMIT text read)) }
-    ensures err { IfErr result (λ fault. HasCauseIn (λ stop. ⊥) (texts_counts (T.seen texts.old).faults (T.seen texts.new).faults) fault) }
+    ensures ok { IfSome (told_under (T.seen texts.old) name.entry)
+        (λ text. IfOk result (λ read. IsReadUpTo TEXT_LIMIT text read)) }
+    ensures err { IfErr result (λ fault. HasCauseIn (λ stop. ⊥)
+        (texts_counts (T.seen texts.old).faults (T.seen texts.new).faults) fault) }
     ensures told { (T.seen texts.new).told ≡ (T.seen texts.old).told }
     ensures later { (T.seen texts.old).faults ≤ (T.seen texts.new).faults }
 {
@@ -140,7 +154,8 @@ fn shaping_in<S: Search>(
     search: &mut S,
 ) -> Result<(Shaping, Vec<Ignored>), LoadFault>
     ensures ok { IfOk result (λ r. shaping_given text.now ≡ Ok (record { shaping = r.0; ignored = r.1.items })) }
-    ensures err { IfErr result (λ fault. HasCauseIn (λ stop. shaping_given text.now ≡ Err stop) (search_counts (S.seen search.old).faults (S.seen search.new).faults) fault) }
+    ensures err { IfErr result (λ fault. HasCauseIn (λ stop. shaping_given text.now ≡ Err stop)
+        (search_counts (S.seen search.old).faults (S.seen search.new).faults) fault) }
     ensures searched { (S.seen search.old).faults ≤ (S.seen search.new).faults }
 {
     if text.len() > TEXT_LIMIT {

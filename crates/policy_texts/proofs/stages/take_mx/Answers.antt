@@ -1,5 +1,5 @@
 use Rattle.mx_table.specs.MxText.{rows_in, reported}
-use Rattle.policy_texts.specs.LoadCauses.{no_counts, texts_counts}
+use Rattle.policy_texts.specs.inside.Stages.{no_counts, texts_counts}
 use Rattle.policy_texts.proofs.Causes.{never_rose}
 use Rattle.policy_texts.proofs.Taken.{as_read, taken_rows, taken_err}
 use Rattle.policy_texts.proofs.stages.take_mx.Goals as goal
@@ -11,4 +11,5 @@ returns-clause-ok g c =
 pub returns-clause-err : goal.returns-clause-err
 returns-clause-err g c =
     taken_err reported rows_in _ c.as_slice.result.now no_counts (texts_counts _ _) c.mx_in.result
-    (as_read _ _ _ c.as_slice.ensures c.in_ok-text.ensures.ok) (λ rose. absurd (never_rose rose)) (λ rose. absurd (never_rose rose)) c.mx_in.ensures.err
+    (as_read _ _ _ c.as_slice.ensures c.in_ok-text.ensures.ok) c.mx_in.ensures.err
+    (λ rose. absurd (never_rose rose)) (λ rose. absurd (never_rose rose))

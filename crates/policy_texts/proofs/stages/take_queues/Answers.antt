@@ -1,7 +1,7 @@
 use Rattle.policy_core.specs.declared.fault.PolicyFile.TheVariants as file
 use Rattle.policy_toml.specs.Reports.{reported}
 use Rattle.queues_policy.specs.QueuesFile.{queues_file}
-use Rattle.policy_texts.specs.LoadCauses.{no_counts, texts_counts}
+use Rattle.policy_texts.specs.inside.Stages.{no_counts, texts_counts}
 use Rattle.policy_texts.proofs.Causes.{never_rose}
 use Rattle.policy_texts.proofs.Taken.{as_read, taken_ok, taken_err}
 use Rattle.policy_texts.proofs.stages.take_queues.Goals as goal
@@ -14,4 +14,5 @@ returns-clause-ok g c =
 pub returns-clause-err : goal.returns-clause-err
 returns-clause-err g c =
     taken_err (reported file.Queues) queues_file _ c.as_slice.result.now no_counts (texts_counts _ _) c.queues_in.result
-    (as_read _ _ _ c.as_slice.ensures c.in_ok-text.ensures.ok) (λ rose. absurd (never_rose rose)) (λ rose. absurd (never_rose rose)) c.queues_in.ensures.err
+    (as_read _ _ _ c.as_slice.ensures c.in_ok-text.ensures.ok) c.queues_in.ensures.err
+    (λ rose. absurd (never_rose rose)) (λ rose. absurd (never_rose rose))

@@ -1,0 +1,2 @@
+-- What private functions cite. No public clause does.
+pub mod Stages
