@@ -12,7 +12,7 @@ use Rattle.std.proofs.lemmas.Map.Text.{is_eq-slice_cmp}
 use Rattle.std.proofs.lemmas.Slice.Eq.{bytes_eq-Decides}
 use Rattle.toml.specs.Data.{Data, Members, no_members, member, as_table, get_member}
 use Rattle.policy_core.proofs.MxLemmas.{first_of_both, second_of_both}
-use Rattle.policy_core.specs.declared.settings.TheConstants.{UNSPECIFIED}
+use Rattle.policy_core.specs.Limits.{unspecified}
 use Rattle.policy_core.specs.declared.sources.Source.{Source}
 use Rattle.policy_core.specs.declared.sources.Entrant.{Entrant}
 use Rattle.policy_core.specs.declared.sources.Pool.{Pool}
@@ -149,9 +149,9 @@ of_member (member key d ms) name e =
 -- and so is each source that is known
 known_source : (ms : Members) (name : List ℕ) → is_known_source ms name ≡ true → list_any (is_of name) (sources_of ms) ≡ true
 known_source ms name e =
-    by_either (bytes_eq name UNSPECIFIED.now) _ _ e
+    by_either (bytes_eq name unspecified) _ _ e
     (λ is.
-    ap (λ (n : List ℕ). list_any (is_of n) (sources_of ms)) ((bytes_eq-Decides name UNSPECIFIED.now).0 is)
+    ap (λ (n : List ℕ). list_any (is_of n) (sources_of ms)) ((bytes_eq-Decides name unspecified).0 is)
     ∙ itself_put (λ (s : Source). s.name) unspecified_source (over_members source_at ms))
     (λ there. any_put (λ (s : Source). s.name) (is_of name) unspecified_source (over_members source_at ms) (of_member ms name there))
 
@@ -183,7 +183,7 @@ pool_enters sources key d e =
 
 pools_enter : (sources pools : Members) → over_members (faults_of_pool sources) pools ≡ [] → list_all (all_enter sources) (pools_of pools) ≡ true
 pools_enter sources pools e =
-    let base = known_source sources UNSPECIFIED.now refl in
+    let base = known_source sources unspecified refl in
     all_put (λ (p : Pool). p.name) (all_enter sources) unspecified_pool (over_members pool_at pools) (both_true _ true base refl)
     (all_over (faults_of_pool sources) pool_at (all_enter sources) (pool_enters sources) pools e)
 
@@ -195,7 +195,7 @@ clean_tables ms e =
     second_none (faults_unless_table [] (codes "pool") (get_member (codes "pool") ms)) _
     (second_none (faults_unless_table [] (codes "source") (get_member (codes "source") ms)) _ (none_first (faults_in ms) e))
 
-pub base_in : (ms : Members) → IsTrue (has_pool (sources_in ms) UNSPECIFIED.now)
+pub base_in : (ms : Members) → IsTrue (has_pool (sources_in ms) unspecified)
 unfolding sources_in
 base_in ms = itself_put (λ (p : Pool). p.name) unspecified_pool (over_members pool_at (members_at (codes "pool") ms))
 
