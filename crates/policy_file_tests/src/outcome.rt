@@ -58,9 +58,15 @@ pub fn joined(alloc: Global, words: &[&str]) -> Result<String, Fail> {
 
 /// Adds a word and a number, where there is one, as ` word=number`.
 pub fn push_number(out: &mut String, word: &str, number: Option<u64>) -> Result<(), Fail> {
-    if let Some(number) = number {
-        write!(out, " {word}={number}")?;
+    match number {
+        Some(number) => push_set(out, word, number),
+        None => Ok(()),
     }
+}
+
+/// Adds a word and a number as ` word=number`.
+pub fn push_set(out: &mut String, word: &str, number: u64) -> Result<(), Fail> {
+    write!(out, " {word}={number}")?;
     Ok(())
 }
 

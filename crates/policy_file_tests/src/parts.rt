@@ -163,10 +163,15 @@ fn reported(alloc: Global, faults: FirstFault) -> Result<String, Fail> {
     let fault = faults.into_fault().ok_or("no fault")?;
     let item = fault.item;
     let mut out = refusal(alloc, &fault.reported(alloc, PolicyFile::Queues))?;
+    push_item(&mut out, item)?;
+    Ok(out)
+}
+
+fn push_item(out: &mut String, item: u64) -> Result<(), Fail> {
     if item != 0 {
         write!(out, ", item {item}")?;
     }
-    Ok(out)
+    Ok(())
 }
 
 fn first_of(alloc: Global, places: &[Place]) -> Result<String, Fail> {

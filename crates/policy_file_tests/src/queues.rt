@@ -1,6 +1,6 @@
 //! Queues files: the layers, keys without effect and refusals that they give, and the settings of names.
 use crate::outcome::{
-    compare, compare_refusals, expect, push_ignored, push_number, push_words, refusal,
+    compare, compare_refusals, expect, push_ignored, push_number, push_set, push_words, refusal,
 };
 use policy_core::{DomainQueues, Ignored, Layer, PolicyFile, Queues, Settings, TenantQueues};
 use queue_name::QueueName;
@@ -48,13 +48,22 @@ fn push_tenant(out: &mut String, tenant: &TenantQueues) -> Result<(), Fail> {
 /// A layer on a line: what it is for, its pool, and its durations in milliseconds.
 fn push_layer(out: &mut String, kind: &str, name: &str, layer: &Layer) -> Result<(), Fail> {
     push_words(out, &[kind, name, ":"])?;
-    if let Some(pool) = &layer.pool {
-        push_words(out, &[" pool=", pool.as_str()])?;
+    push_pool(out, layer)?;
+    push_durations(out, layer)?;
+    push_words(out, &["\n"])
+}
+
+fn push_pool(out: &mut String, layer: &Layer) -> Result<(), Fail> {
+    match &layer.pool {
+        Some(pool) => push_words(out, &[" pool=", pool.as_str()]),
+        None => Ok(()),
     }
+}
+
+fn push_durations(out: &mut String, layer: &Layer) -> Result<(), Fail> {
     push_number(out, "age", layer.max_age)?;
     push_number(out, "retry", layer.retry_interval)?;
-    push_number(out, "bound", layer.max_retry_interval)?;
-    push_words(out, &["\n"])
+    push_number(out, "bound", layer.max_retry_interval)
 }
 
 /// A tenant with a pool, an age for all, and a domain with an interval.
@@ -235,13 +244,17 @@ fn queues_of(alloc: Global, text: &str) -> Result<Queues, Fail> {
 
 /// The settings of a name: the pool, and the durations in milliseconds.
 fn settings(alloc: Global, queues: &Queues, name: &str) -> Result<String, Fail> {
-    let found: Settings = settings_for(alloc, queues, &QueueName::parse(alloc, name)?)?;
+    let found = settings_for(alloc, queues, &QueueName::parse(alloc, name)?)?;
     let mut out = String::new(alloc);
-    push_words(&mut out, &[found.pool.as_str()])?;
-    push_number(&mut out, "age", Some(found.max_age))?;
-    push_number(&mut out, "retry", Some(found.retry_interval))?;
-    push_number(&mut out, "bound", found.max_retry_interval)?;
+    push_settings(&mut out, &found)?;
     Ok(out)
+}
+
+fn push_settings(out: &mut String, found: &Settings) -> Result<(), Fail> {
+    push_words(out, &[found.pool.as_str()])?;
+    push_set(out, "age", found.max_age)?;
+    push_set(out, "retry", found.retry_interval)?;
+    push_number(out, "bound", found.max_retry_interval)
 }
 
 fn compare_settings(

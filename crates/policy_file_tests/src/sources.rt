@@ -1,6 +1,6 @@
 //! Sources files: the sample, keys without effect, each refusal, and the bound of a pool.
 use crate::outcome::{
-    compare, compare_refusals, expect, push_ignored, push_number, push_words, refusal,
+    compare, compare_refusals, expect, push_ignored, push_set, push_words, refusal,
 };
 use policy_core::{Ignored, PolicyFile, Pool, Sources};
 use sources_policy::read_sources;
@@ -32,7 +32,7 @@ fn shown(alloc: Global, sources: &Sources, ignored: &[Ignored]) -> Result<String
 fn push_pool(out: &mut String, pool: &Pool) -> Result<(), Fail> {
     push_words(out, &[pool.name.as_str(), ":"])?;
     for entrant in pool.entrants.as_slice() {
-        push_number(out, entrant.source.as_str(), Some(entrant.weight as u64))?;
+        push_set(out, entrant.source.as_str(), entrant.weight as u64)?;
     }
     push_words(out, &["\n"])
 }

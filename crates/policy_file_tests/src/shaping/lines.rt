@@ -1,5 +1,5 @@
 //! Shaping as text, with a line for each table, rule and key without effect.
-use crate::outcome::{push_ignored, push_number, push_words};
+use crate::outcome::{push_ignored, push_set, push_words};
 use kumo_base::Text;
 use policy_core::{
     Action, DomainShape, Ignored, Match, Options, Provider, Rule, Setting, ShapeTable, Shaping,
@@ -81,7 +81,7 @@ fn push_bounds(out: &mut String, options: &Options) -> Result<(), Fail> {
 
 fn push_count(out: &mut String, word: &str, count: Option<u32>) -> Result<(), Fail> {
     match count {
-        Some(count) => push_number(out, word, Some(count as u64)),
+        Some(count) => push_set(out, word, count as u64),
         None => Ok(()),
     }
 }
