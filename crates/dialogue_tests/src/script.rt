@@ -23,11 +23,11 @@ struct Script<'a> {
 
 impl<'a> Link for Script<'a> {
     ghost seen = { λ s. record {
-        opening = record { place = 0; host = []; source = []; uses = [] };
-        sent = None;
-        got = None;
-        ended = s.ended;
-        faults = s.faults;
+      opening = record { place = 0; host = []; source = []; uses = [] };
+      sent = None;
+      got = None;
+      ended = s.ended;
+      faults = s.faults;
     } };
 
     #[tactic(auto, unfolding(kumo_outside::specs::Told::extended))]
