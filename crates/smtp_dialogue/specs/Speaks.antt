@@ -1,5 +1,5 @@
 -- What a call of the dialogue does, by the part of the transcript that it stands for.
-use Rattle.std.specs.Prelude.{◌≡◌, ℕ, ◌≤◌, ◌⊎◌, List, ◌++◌, codes, Bool, true, false, Option}
+use Rattle.std.specs.Prelude.{◌≡◌, ℕ, ◌≤◌, ◌⊎◌, List, ◌++◌, codes, Bool, true, false}
 use Rattle.kumo_base.specs.Causes.{Rose}
 use Rattle.kumo_outside.specs.Sessions.{LinkSeen}
 use Rattle.kumo_outside.specs.Told.{extended, TakesFront, TakesProperFront}

@@ -1,5 +1,5 @@
 -- What the inner steps of the dialogue do: sending, listening, asking, and one try of a message.
-use Rattle.std.specs.Prelude.{◌≡◌, ℕ, ◌≤◌, ◌⊎◌, List, ◌++◌, take, drop, Bool, true, false, Option, Result, Ok, Err}
+use Rattle.std.specs.Prelude.{◌≡◌, ℕ, ◌≤◌, ◌⊎◌, List, ◌++◌, take, drop, true, false, Result, Ok, Err}
 use Rattle.kumo_base.specs.Causes.{Rose}
 use Rattle.kumo_outside.specs.Sessions.{LinkSeen}
 use Rattle.kumo_outside.specs.Told.{extended, TakesProperFront}
