@@ -2,4 +2,7 @@ mod ResultLemmas
 mod StepLemmas
 mod SessionLemmas
 mod MailLemmas
-mod PrintingLemmas
+mod SendLemmas
+mod PolicyLemmas
+mod EndLemmas
+mod LawLemmas

@@ -17,7 +17,7 @@ use Rattle.smtp_dialogue.proofs.Stability.{parts_stable, greeting_stable, attemp
 use Rattle.smtp_dialogue.proofs.Following.{followed}
 use Rattle.policy_core.specs.Limits.{localhost}
 use Rattle.kumo_run.specs.Delivery.{up_to_quit, IsDeliveredBy, IsNotDelivered}
-use Rattle.kumo_run.specs.Working.{IsFreshLink, Tells}
+use Rattle.kumo_run.specs.inside.OneMessage.{IsFreshLink, Tells}
 
 -- ---- a part that left the link not alive is all that the parts behind it come to
 

@@ -11,7 +11,7 @@ use Rattle.history_core.specs.declared.entry.Next.TheVariants.{Settled}
 use Rattle.history_core.specs.declared.entry.Cause.TheVariants.{Empty}
 use Rattle.policy_core.specs.Limits.{unspecified}
 use Rattle.history_core.specs.Legal.{MayFollow}
-use Rattle.kumo_run.specs.Steps.{entry, path_to, accepted, promoted, opened, begun, ended, closed, stopped}
+use Rattle.kumo_run.specs.inside.OneDelivery.{entry, path_to, accepted, promoted, opened, begun, ended, closed, stopped}
 
 same_number : (n : ℕ) → (n == n) ≡ true
 same_number n = eq-eqb n n refl

@@ -10,8 +10,8 @@ ghost use Rattle.policy_core.specs.PathTables.{path_text};
 ghost use Rattle.smtp_reply.specs.ReplyText.{IsProperOutcome};
 ghost use Rattle.smtp_dialogue.specs.Transcript.{parting};
 ghost use Rattle.smtp_dialogue.specs.Speaks.{Speaks, side};
-ghost use Rattle.kumo_run.specs.Steps.{promoted, opened, begun};
-ghost use Rattle.kumo_run.specs.Working.{IsFreshLink, Converses, Parts, Connects, Delivers};
+ghost use Rattle.kumo_run.specs.inside.OneDelivery.{promoted, opened, begun};
+ghost use Rattle.kumo_run.specs.inside.OneMessage.{IsFreshLink, Converses, Parts, Connects, Delivers};
 
 use crate::registry::Registry;
 use kumo_base::{Memory, Room, Text};
@@ -27,7 +27,7 @@ const CONNECTION: u64 = 1;
 
 /// Why a message was not delivered.
 #[derive(Clone, Copy, Debug, PartialEq, Eq)]
-pub enum WorkFault {
+pub enum DeliveryFault {
     /// No link was opened.
     NotOpened,
     /// The receiver did not take the message.
@@ -36,13 +36,13 @@ pub enum WorkFault {
     Memory,
 }
 
-impl From<Memory> for WorkFault {
-    ghost use Rattle.kumo_run.specs.declared.dispatcher.WorkFault.{WorkFault};
+impl From<Memory> for DeliveryFault {
+    ghost use Rattle.kumo_run.specs.declared.dispatcher.DeliveryFault.{DeliveryFault};
 
-    ghost from_gives = { λ _ fault. fault ≡ WorkFault.Memory };
+    ghost from_gives = { λ _ fault. fault ≡ DeliveryFault.Memory };
 
-    fn from(_memory: Memory) -> WorkFault {
-        WorkFault::Memory
+    fn from(_memory: Memory) -> DeliveryFault {
+        DeliveryFault::Memory
     }
 }
 
@@ -52,10 +52,11 @@ pub fn deliver<K: Linker>(
     alloc: Global,
     message: &Message,
     linker: &mut K,
-) -> Result<Registry, WorkFault>
+) -> Result<Registry, DeliveryFault>
     requires { IsProperMessage message.now }
-    ensures told { IfSome (K.seen linker.old).sessions (λ before. Delivers message.now result (K.seen linker.new).sessions before) }
-    ensures fault { result ≡ Err WorkFault.NotOpened → Rose (K.seen linker.old).faults (K.seen linker.new).faults }
+    ensures told { IfSome (K.seen linker.old).sessions
+        (λ before. Delivers message.now result (K.seen linker.new).sessions before) }
+    ensures fault { result ≡ Err DeliveryFault.NotOpened → Rose (K.seen linker.old).faults (K.seen linker.new).faults }
 {
     let mut registry = ready(alloc, message)?;
     let path = path_text(alloc, message.name.domain.as_str())?;
@@ -73,15 +74,16 @@ fn connect<K: Linker>(
     message: &Message,
     scratch: &mut Scratch,
     room: Room,
-) -> Result<(), WorkFault>
+) -> Result<(), DeliveryFault>
     requires history { registry.old ≡ opened message.now }
     requires room { room ≡ [] }
-    ensures told { IfSome (K.seen linker.old).sessions (λ before. Connects message.now result registry.new (K.seen linker.new).sessions before) }
-    ensures fault { result ≡ Err WorkFault.NotOpened → Rose (K.seen linker.old).faults (K.seen linker.new).faults }
+    ensures told { IfSome (K.seen linker.old).sessions
+        (λ before. Connects message.now result registry.new (K.seen linker.new).sessions before) }
+    ensures fault { result ≡ Err DeliveryFault.NotOpened → Rose (K.seen linker.old).faults (K.seen linker.new).faults }
 {
     let mut link = match linker.open(message.name.domain.as_str(), UNSPECIFIED) {
         Ok(link) => link,
-        Err(_) => return Err(WorkFault::NotOpened),
+        Err(_) => return Err(DeliveryFault::NotOpened),
     };
     let worked = converse(registry, &mut link, message, scratch, room);
     linker.done(link);
@@ -117,15 +119,15 @@ fn converse<L: Link>(
     message: &Message,
     scratch: &mut Scratch,
     room: Room,
-) -> Result<(), WorkFault>
+) -> Result<(), DeliveryFault>
     requires history { registry.old ≡ opened message.now }
     requires room { room ≡ [] }
     ensures opening { (L.seen link.new).opening ≡ (L.seen link.old).opening }
     ensures told { IsFreshLink (L.seen link.old) → Converses message.now (L.seen link.new) result registry.new }
-    ensures fault { result ≡ Err WorkFault.NotOpened → ⊥ }
+    ensures fault { result ≡ Err DeliveryFault.NotOpened → ⊥ }
 {
     match greet(link, DEFAULT_EHLO, scratch) {
-        Greeted::Refused => return Err(WorkFault::NotDelivered),
+        Greeted::Refused => return Err(DeliveryFault::NotDelivered),
         Greeted::Ready => (),
     }
     registry.begin(CONNECTION, message.id)?;
@@ -138,7 +140,7 @@ fn converse<L: Link>(
         room,
     );
     if !tried.alive {
-        return Err(WorkFault::NotDelivered);
+        return Err(DeliveryFault::NotDelivered);
     }
     part(registry, link, message, scratch, tried.outcome)
 }
@@ -150,11 +152,12 @@ fn part<L: Link>(
     message: &Message,
     scratch: &mut Scratch,
     outcome: Outcome,
-) -> Result<(), WorkFault>
+) -> Result<(), DeliveryFault>
     requires history { registry.old ≡ begun message.now }
     requires outcome { IsProperOutcome outcome }
     ensures opening { (L.seen link.new).opening ≡ (L.seen link.old).opening }
-    ensures spoken { Parts message.now outcome result registry.new (Speaks parting (side (L.seen link.old) scratch.old) (side (L.seen link.new) scratch.new) [] [] false) }
+    ensures spoken { Parts message.now outcome result registry.new
+        (Speaks parting (side (L.seen link.old) scratch.old) (side (L.seen link.new) scratch.new) [] [] false) }
 {
     match outcome {
         Outcome::Delivered(reply) => {
@@ -165,7 +168,7 @@ fn part<L: Link>(
         }
         Outcome::Transient(_) | Outcome::Permanent(_) | Outcome::Lost(_) => {
             farewell(link, scratch);
-            Err(WorkFault::NotDelivered)
+            Err(DeliveryFault::NotDelivered)
         }
     }
 }

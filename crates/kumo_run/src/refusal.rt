@@ -64,7 +64,8 @@ impl Refusal {
     /// Prints the refusal's line. Where the sink fails a front of it was printed; a refusal stays what it is.
     pub fn print<O: Sink>(&self, out: &mut O)
         ensures front { TakesFront (O.seen out.old).told (O.seen out.new).told (refusal_line self.now) }
-        ensures whole { (Rose (O.seen out.old).faults (O.seen out.new).faults → ⊥) → (O.seen out.new).told ≡ extended (O.seen out.old).told (refusal_line self.now) }
+        ensures whole { (Rose (O.seen out.old).faults (O.seen out.new).faults → ⊥)
+            → (O.seen out.new).told ≡ extended (O.seen out.old).told (refusal_line self.now) }
         ensures later { (O.seen out.old).faults ≤ (O.seen out.new).faults }
     {
         match put_line(self, out) {
@@ -107,8 +108,10 @@ fn put_policy_line<O: Sink>(
     why: Why,
     out: &mut O,
 ) -> Result<(), Failed>
-    ensures whole { OnOk result ((O.seen out.new).told ≡ extended (O.seen out.old).told (refusal_line (Refusal.Policy file table.now key.now why))) }
-    ensures part { OnErr result (TakesFront (O.seen out.old).told (O.seen out.new).told (refusal_line (Refusal.Policy file table.now key.now why))) }
+    ensures whole { OnOk result ((O.seen out.new).told
+        ≡ extended (O.seen out.old).told (refusal_line (Refusal.Policy file table.now key.now why))) }
+    ensures part { OnErr result (TakesFront (O.seen out.old).told (O.seen out.new).told
+        (refusal_line (Refusal.Policy file table.now key.now why))) }
     ensures cause { HasCause (O.seen out.old).faults (O.seen out.new).faults result }
 {
     put_three(out, "error: policy ", file.name(), " ")?;
@@ -152,8 +155,10 @@ fn end_of_line(why: MailWhy) -> &'static str
 
 /// Puts three texts, one behind the other.
 fn put_three<O: Sink>(out: &mut O, first: &str, second: &str, third: &str) -> Result<(), Failed>
-    ensures whole { OnOk result ((O.seen out.new).told ≡ extended (O.seen out.old).told (first.now ++ (second.now ++ third.now))) }
-    ensures part { OnErr result (TakesFront (O.seen out.old).told (O.seen out.new).told (first.now ++ (second.now ++ third.now))) }
+    ensures whole { OnOk result ((O.seen out.new).told
+        ≡ extended (O.seen out.old).told (first.now ++ (second.now ++ third.now))) }
+    ensures part { OnErr result (TakesFront (O.seen out.old).told (O.seen out.new).told
+        (first.now ++ (second.now ++ third.now))) }
     ensures cause { HasCause (O.seen out.old).faults (O.seen out.new).faults result }
 {
     put_text(out, first)?;

@@ -6,7 +6,7 @@ ghost use Rattle.std.specs.Prelude.{◌≡◌, List, [], ◌∷◌, ◌++◌, On
 ghost use Rattle.history_core.specs.declared.entry.Entry.{Entry};
 ghost use Rattle.history_core.specs.declared.entry.Event.{Event};
 ghost use Rattle.history_core.specs.Legal.{IsLegal, MayFollow};
-ghost use Rattle.kumo_run.specs.Steps.{entry};
+ghost use Rattle.kumo_run.specs.inside.OneDelivery.{entry};
 
 use history_core::{Cause, Entry, Event, History, Next};
 use kumo_base::{Memory, Text};
@@ -84,7 +84,8 @@ impl Registry {
     /// Ends an attempt with its delivery.
     pub fn end_delivered(&mut self, conn: u64, id: u128, reply: Reply) -> Result<(), Memory>
         requires { MayFollow self.old (entry (Event.Ended conn id (Outcome.Delivered reply) Next.Settled)) }
-        ensures ok { OnOk result (self.new ≡ self.old ++ entry (Event.Ended conn id (Outcome.Delivered reply) Next.Settled) ∷ []) }
+        ensures ok { OnOk result (self.new
+            ≡ self.old ++ entry (Event.Ended conn id (Outcome.Delivered reply) Next.Settled) ∷ []) }
         ensures err { OnErr result (self.new ≡ self.old) }
     {
         self.append(Event::Ended {

@@ -1,19 +1,25 @@
 //! The top call: from the words and the bytes of texts to the bytes of the delivery log, or of a text on policies.
-ghost use Rattle.std.specs.Prelude.{◌≡◌, ◌≤◌, ℕ, [], None, IsTrue, string_bytes};
+//!
+//! `perform` finds the command and has it done; each command reads, and either is refused, which prints one line, or writes the
+//! text of its deed.
+ghost use Rattle.std.specs.Prelude.{◌≡◌, ◌≤◌, [], None, Some, IsTrue};
 ghost use Rattle.queue_name.specs.QueueName.{is_name};
+ghost use Rattle.kumo_outside.specs.Search.{SearchSeen};
+ghost use Rattle.command_words.specs.Commands.{check, explain, send};
 ghost use Rattle.command_words.specs.Told.{seen_names, seen_question, seen_sending};
-ghost use Rattle.policy_texts.specs.Policies.{Stops};
-ghost use Rattle.kumo_run.specs.StatusCode.{code_of, status_of_log, status_of_text};
-ghost use Rattle.kumo_run.specs.RefusalLine.{status_of};
-ghost use Rattle.kumo_run.specs.Ends.{Ends, EndsSend, EndsSendIf, EndsPrinting, EndsUnbuilt, asks_for_mail_alone, names_no_text, has_no_option, Prints, Refuses};
-ghost use Rattle.kumo_run.specs.Printing.{IsCheckText, IsExplainText, HasTextCause};
-ghost use Rattle.kumo_run.specs.Work.{all_sessions};
-ghost use Rattle.kumo_run.specs.declared.status.Status.{Status};
+ghost use Rattle.delivery_log.specs.LogText.{log_text};
+ghost use Rattle.kumo_run.specs.StatusCode.{number_of};
+ghost use Rattle.kumo_run.specs.RefusalLine.{refusal_line, status_of};
+ghost use Rattle.kumo_run.specs.Outside.{outside};
+ghost use Rattle.kumo_run.specs.Ending.{WroteUnlessFailed};
+ghost use Rattle.kumo_run.specs.Deeds.{all_sessions, asks_for_mail_alone, names_no_text, has_no_option};
+ghost use Rattle.kumo_run.specs.Ends.{Ends, EndsCommand};
+ghost use Rattle.kumo_run.specs.inside.Writing.{Writes, WritesLog, status_of_log, status_of_text};
 
-use crate::printing::{check_text, explain_text};
+use crate::policy_answers::{check_text, explain_text};
 use crate::refusal::Refusal;
+use crate::send::send_mail_text;
 use crate::status::Status;
-use crate::work::send_mail_text;
 use command_words::{Asked, Command, PolicyNames, Sending, command_of};
 use delivery_log::{LogWriteFault, write_log};
 use history_core::History;
@@ -57,10 +63,9 @@ pub fn perform<T: Texts, O: Sink, D, C, S: Search>(
     ensures disk { result.disk ≡ disk }
     ensures clock { result.clock ≡ clock }
     ensures search { (S.seen search).faults ≤ (S.seen result.search).faults }
-    ensures ends { (status : Status) × (result.status ≡ code_of status) × Ends status words.now (T.seen texts.old).told
-        (record { texts_before = (T.seen texts.old).faults; texts_after = (T.seen texts.new).faults; search_before = (S.seen search).faults; search_after = (S.seen result.search).faults })
-        (record { told_before = (O.seen out.old).told; told_after = (O.seen out.new).told; faults_before = (O.seen out.old).faults; faults_after = (O.seen out.new).faults })
-        result.history (all_sessions result.peers.items) }
+    ensures ends { Ends words.now (outside (T.seen texts.old) (O.seen out.old) (S.seen search))
+        (outside (T.seen texts.new) (O.seen out.new) (S.seen result.search)) result.status result.history
+        (all_sessions result.peers.items) }
 {
     let mut peers = Vec::new(alloc);
     let ended = run(alloc, words, texts, out, &mut search, &mut peers);
@@ -91,10 +96,9 @@ fn run<T: Texts, O: Sink, S: Search>(
     peers: &mut Vec<ScriptedLinker>,
 ) -> Ended
     requires { peers.old.items ≡ [] }
-    ensures ends { Ends result.status words.now (T.seen texts.old).told
-        (record { texts_before = (T.seen texts.old).faults; texts_after = (T.seen texts.new).faults; search_before = (S.seen search.old).faults; search_after = (S.seen search.new).faults })
-        (record { told_before = (O.seen out.old).told; told_after = (O.seen out.new).told; faults_before = (O.seen out.old).faults; faults_after = (O.seen out.new).faults })
-        result.history (all_sessions peers.new.items) }
+    ensures ends { Ends words.now (outside (T.seen texts.old) (O.seen out.old) (S.seen search.old))
+        (outside (T.seen texts.new) (O.seen out.new) (S.seen search.new)) (number_of result.status) result.history
+        (all_sessions peers.new.items) }
     ensures search { (S.seen search.old).faults ≤ (S.seen search.new).faults }
 {
     match command_of(words) {
@@ -102,9 +106,9 @@ fn run<T: Texts, O: Sink, S: Search>(
         Some(Command::Check(names)) => run_check(alloc, &names, texts, out, search),
         Some(Command::Explain(asked)) => run_explain(alloc, &asked, texts, out, search),
         Some(Command::Send(sending)) => run_send(alloc, &sending, texts, out, peers),
-        Some(Command::Spool(_) | Command::Crew(_, _) | Command::Load(_, _)) => {
-            refused(Refusal::NotYetWords, out)
-        }
+        Some(Command::Spool(_)) => refused(Refusal::NotYetWords, out),
+        Some(Command::Crew(_, _)) => refused(Refusal::NotYetWords, out),
+        Some(Command::Load(_, _)) => refused(Refusal::NotYetWords, out),
     }
 }
 
@@ -117,15 +121,16 @@ fn run_send<T: Texts, O: Sink>(
     peers: &mut Vec<ScriptedLinker>,
 ) -> Ended
     requires { peers.old.items ≡ [] }
-    ensures { (search_before search_after : ℕ) → EndsSendIf (asks_for_mail_alone (seen_sending sending.now)) result.status ((T.seen texts.old).told sending.now.mail.now)
-        (record { texts_before = (T.seen texts.old).faults; texts_after = (T.seen texts.new).faults; search_before = search_before; search_after = search_after })
-        (record { told_before = (O.seen out.old).told; told_after = (O.seen out.new).told; faults_before = (O.seen out.old).faults; faults_after = (O.seen out.new).faults })
-        result.history (all_sessions peers.new.items) }
+    ensures { (search : SearchSeen) → EndsCommand (Some (send (seen_sending sending.now)))
+        (outside (T.seen texts.old) (O.seen out.old) search) (outside (T.seen texts.new) (O.seen out.new) search)
+        (number_of result.status) result.history (all_sessions peers.new.items) }
 {
-    if asks_for_mail_alone(sending) {
-        send_mail(alloc, sending.mail, texts, out, peers)
-    } else {
-        refused(Refusal::NotYetWords, out)
+    if !asks_for_mail_alone(sending) {
+        return refused(Refusal::NotYetWords, out);
+    }
+    match send_mail_text(alloc, sending.mail, texts, PeerReplies::new(), peers) {
+        Ok(history) => logged(alloc, history, out),
+        Err(why) => refused(why, out),
     }
 }
 
@@ -157,29 +162,6 @@ fn has_no_option(sending: &Sending<'_>) -> bool
         && sending.spool.is_none()
 }
 
-/// Sends a mail text and writes the delivery log.
-fn send_mail<T: Texts, O: Sink>(
-    alloc: Global,
-    mail: &str,
-    texts: &mut T,
-    out: &mut O,
-    peers: &mut Vec<ScriptedLinker>,
-) -> Ended
-    requires { peers.old.items ≡ [] }
-    ensures { (search_before search_after : ℕ) → EndsSend result.status ((T.seen texts.old).told mail.now)
-        (record { texts_before = (T.seen texts.old).faults; texts_after = (T.seen texts.new).faults; search_before = search_before; search_after = search_after })
-        (record { told_before = (O.seen out.old).told; told_after = (O.seen out.new).told; faults_before = (O.seen out.old).faults; faults_after = (O.seen out.new).faults })
-        result.history (all_sessions peers.new.items) }
-{
-    match send_mail_text(alloc, mail, texts, PeerReplies::new(), peers) {
-        Ok(history) => Ended {
-            status: log_status(write_log(alloc, &history, out)),
-            history: Some(history),
-        },
-        Err(why) => refused(why, out),
-    }
-}
-
 /// Checks policy texts and writes the report.
 fn run_check<T: Texts, O: Sink, S: Search>(
     alloc: Global,
@@ -188,10 +170,9 @@ fn run_check<T: Texts, O: Sink, S: Search>(
     out: &mut O,
     search: &mut S,
 ) -> Ended
-    ensures ends { EndsPrinting result.status (IsCheckText (T.seen texts.old).told (seen_names names.now)) (Stops (T.seen texts.old).told (seen_names names.now))
-        (record { texts_before = (T.seen texts.old).faults; texts_after = (T.seen texts.new).faults; search_before = (S.seen search.old).faults; search_after = (S.seen search.new).faults })
-        (record { told_before = (O.seen out.old).told; told_after = (O.seen out.new).told; faults_before = (O.seen out.old).faults; faults_after = (O.seen out.new).faults }) }
-    ensures history { result.history ≡ None }
+    ensures ends { EndsCommand (Some (check (seen_names names.now)))
+        (outside (T.seen texts.old) (O.seen out.old) (S.seen search.old))
+        (outside (T.seen texts.new) (O.seen out.new) (S.seen search.new)) (number_of result.status) result.history [] }
     ensures search { (S.seen search.old).faults ≤ (S.seen search.new).faults }
 {
     match check_text(alloc, texts, names, search) {
@@ -209,10 +190,9 @@ fn run_explain<T: Texts, O: Sink, S: Search>(
     search: &mut S,
 ) -> Ended
     requires { IsTrue (is_name (seen_question asked.now).name) }
-    ensures ends { EndsPrinting result.status (IsExplainText (T.seen texts.old).told (seen_question asked.now)) (Stops (T.seen texts.old).told (seen_names asked.now.texts))
-        (record { texts_before = (T.seen texts.old).faults; texts_after = (T.seen texts.new).faults; search_before = (S.seen search.old).faults; search_after = (S.seen search.new).faults })
-        (record { told_before = (O.seen out.old).told; told_after = (O.seen out.new).told; faults_before = (O.seen out.old).faults; faults_after = (O.seen out.new).faults }) }
-    ensures history { result.history ≡ None }
+    ensures ends { EndsCommand (Some (explain (seen_question asked.now)))
+        (outside (T.seen texts.old) (O.seen out.old) (S.seen search.old))
+        (outside (T.seen texts.new) (O.seen out.new) (S.seen search.new)) (number_of result.status) result.history [] }
     ensures search { (S.seen search.old).faults ≤ (S.seen search.new).faults }
 {
     match explain_text(alloc, texts, asked, search) {
@@ -223,8 +203,8 @@ fn run_explain<T: Texts, O: Sink, S: Search>(
 
 /// Writes a text on policies.
 fn printed<O: Sink>(text: &str, out: &mut O) -> Ended
-    ensures { Prints result.status result.history text.now
-        (record { told_before = (O.seen out.old).told; told_after = (O.seen out.new).told; faults_before = (O.seen out.old).faults; faults_after = (O.seen out.new).faults }) }
+    ensures wrote { Writes result.status (O.seen out.old) (O.seen out.new) text.now }
+    ensures history { result.history ≡ None }
 {
     Ended {
         status: text_status(put_all(out, text.as_bytes())),
@@ -232,11 +212,22 @@ fn printed<O: Sink>(text: &str, out: &mut O) -> Ended
     }
 }
 
+/// Writes the log of a history, and hands the history out.
+fn logged<O: Sink>(alloc: Global, history: History, out: &mut O) -> Ended
+    ensures wrote { WritesLog result.status (O.seen out.old) (O.seen out.new) (log_text history) }
+    ensures history { result.history ≡ Some history }
+{
+    Ended {
+        status: log_status(write_log(alloc, &history, out)),
+        history: Some(history),
+    }
+}
+
 /// Prints why nothing was done.
 fn refused<O: Sink>(why: Refusal, out: &mut O) -> Ended
     ensures status { result.status ≡ status_of why }
     ensures history { result.history ≡ None }
-    ensures refuses { Refuses (record { told_before = (O.seen out.old).told; told_after = (O.seen out.new).told; faults_before = (O.seen out.old).faults; faults_after = (O.seen out.new).faults }) why }
+    ensures wrote { WroteUnlessFailed (O.seen out.old) (O.seen out.new) (refusal_line why) }
 {
     why.print(out);
     Ended {

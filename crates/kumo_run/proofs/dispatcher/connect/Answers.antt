@@ -2,11 +2,11 @@ use Rattle.std.proofs.Common.{◌≡◌, ℕ, List, [], ◌∷◌, ◌++◌, len
 use Rattle.kumo_outside.specs.Sessions.{Opening, LinkSeen, Opens, GivesBack, fresh, session_of}
 use Rattle.queue_name.specs.declared.message.Message.{Message}
 use Rattle.kumo_outside.specs.declared.session.Session.{Session}
-use Rattle.kumo_run.specs.declared.dispatcher.WorkFault.{WorkFault}
-use Rattle.kumo_run.specs.declared.dispatcher.WorkFault.TheVariants.{NotOpened, NotDelivered, Memory}
+use Rattle.kumo_run.specs.declared.dispatcher.DeliveryFault.{DeliveryFault}
+use Rattle.kumo_run.specs.declared.dispatcher.DeliveryFault.TheVariants.{NotOpened, NotDelivered, Memory}
 use Rattle.history_core.specs.declared.entry.Entry.{Entry}
 use Rattle.policy_core.specs.Limits.{unspecified}
-use Rattle.kumo_run.specs.Working.{IsFreshLink, Converses, Connects, Tells, TellsOneMore}
+use Rattle.kumo_run.specs.inside.OneMessage.{IsFreshLink, Converses, Connects, Tells, TellsOneMore}
 use Rattle.kumo_run.proofs.dispatcher.connect.Goals as goal
 
 -- the last item of a list is set
@@ -36,19 +36,27 @@ module _ (m : Message) (host source : List ℕ) (host_is : host ≡ m.name.domai
         decided = t.decided;
       }
 
-  connects_at : {T : Type 0} (before : List Session) (r : Result T WorkFault) (h : List Entry) → Opens (Some before) mid host source k1
+  connects_at : {T : Type 0} (before : List Session) (r : Result T DeliveryFault) (h : List Entry) → Opens (Some before) mid host source k1
       → GivesBack mid new k2 → Converses m k2 r h → Connects m r h new before
   connects_at before (Ok x) h opens gives t = one_more before _ opens gives t
-  connects_at before (Err NotOpened) h opens gives t = tt
+  connects_at before (Err NotOpened) h opens gives t = absurd t
   connects_at before (Err NotDelivered) h opens gives t = one_more before _ opens gives t
   connects_at before (Err Memory) h opens gives t = tt
 
-  connects : {T : Type 0} (old : Option (List Session)) (r : Result T WorkFault) (h : List Entry) → Opens old mid host source k1
+  connects : {T : Type 0} (old : Option (List Session)) (r : Result T DeliveryFault) (h : List Entry) → Opens old mid host source k1
       → GivesBack mid new k2 → (IsFreshLink k1 → Converses m k2 r h) → IfSome old (λ before. Connects m r h new before)
   connects None r h opens gives told = tt
   connects (Some before) r h opens gives told =
       let is_fresh : IsFreshLink k1 = record { sent_is = opens.told.2; got_is = opens.told.3; faults_are = opens.told.4 } in
       connects_at before r h opens gives (told is_fresh)
+
+-- a link that was not opened leaves the sessions as they were
+sessions_stay : (old new : Option (List Session)) → new ≡ old → IfSome old (λ before. new ≡ Some before)
+sessions_stay None new e = tt
+sessions_stay (Some before) new e = e
+
+pub returns-in-Err-clause-told : goal.returns-in-Err-clause-told
+returns-in-Err-clause-told g c = sessions_stay _ _ c.in-Err.ensures.failed
 
 pub returns-clause-told : goal.returns-clause-told
 returns-clause-told g c =

@@ -4,13 +4,13 @@ use Rattle.queue_name.specs.declared.message.Message.{Message}
 use Rattle.smtp_reply.specs.declared.reply.Outcome.{Outcome}
 use Rattle.smtp_reply.specs.declared.reply.Outcome.TheVariants.{Lost}
 use Rattle.smtp_reply.specs.declared.reply.Lost.TheVariants.{LinkFault}
-use Rattle.kumo_run.specs.declared.dispatcher.WorkFault.{WorkFault}
-use Rattle.kumo_run.specs.declared.dispatcher.WorkFault.TheVariants.{NotOpened, NotDelivered, Memory}
+use Rattle.kumo_run.specs.declared.dispatcher.DeliveryFault.{DeliveryFault}
+use Rattle.kumo_run.specs.declared.dispatcher.DeliveryFault.TheVariants.{NotOpened, NotDelivered, Memory}
 use Rattle.history_core.specs.declared.entry.Entry.{Entry}
 use Rattle.smtp_dialogue.specs.Transcript.{greeting, attempted, parting, before_parting}
 use Rattle.smtp_dialogue.specs.Speaks.{Side, side, Speaks}
 use Rattle.policy_core.specs.Limits.{localhost}
-use Rattle.kumo_run.specs.Working.{IsFreshLink, Converses, Parts}
+use Rattle.kumo_run.specs.inside.OneMessage.{IsFreshLink, Converses, Parts}
 use Rattle.kumo_run.proofs.SessionLemmas.{speaks_before_parting, tells_refused, tells_lost, tells_delivered, tells_undelivered}
 use Rattle.kumo_run.proofs.dispatcher.converse.Goals as goal
 
@@ -21,7 +21,7 @@ module _ (m : Message) (k : LinkSeen) (fresh : IsFreshLink k) (s1 s2 s3 : Side) 
   both : Speaks (before_parting localhost (m ∷ [])) (side k []) s2 at_fault (outcome ∷ []) true
   both = speaks_before_parting m (side k []) s1 s2 at_fault (outcome ∷ []) true greets tries
 
-  converses : {T : Type 0} (r : Result T WorkFault) (h : List Entry) → Parts m outcome r h (Speaks parting s2 s3 [] [] false) → Converses m s3.link r h
+  converses : {T : Type 0} (r : Result T DeliveryFault) (h : List Entry) → Parts m outcome r h (Speaks parting s2 s3 [] [] false) → Converses m s3.link r h
   converses (Ok x) h (reply, is, history, parts) =
       let told = tells_delivered m k fresh s2 s3 at_fault outcome both parts reply is in
       record {
@@ -32,7 +32,7 @@ module _ (m : Message) (k : LinkSeen) (fresh : IsFreshLink k) (s1 s2 s3 : Side) 
         transcript = told.transcript;
         decided = (reply, history, told.decided);
       }
-  converses (Err NotOpened) h parts = tt
+  converses (Err NotOpened) h parts = absurd parts
   converses (Err NotDelivered) h (other, parts) = tells_undelivered m k fresh s2 s3 at_fault outcome both parts other
   converses (Err Memory) h parts = tt
 

@@ -1,13 +1,14 @@
-//! The work before the log: the mail text and the messages of it.
+//! The sending of a mail text, before its log is written: the text is read, and its message is sent over a linker.
 ghost use Rattle.std.specs.Prelude.{◌≡◌, [], ◌∷◌, IfOk, IfErr, IfSome, All};
 ghost use Rattle.queue_name.specs.Message.{IsProperMessage};
-ghost use Rattle.kumo_run.specs.Ends.{Works};
-ghost use Rattle.kumo_run.specs.Run.{IsRun};
 ghost use Rattle.mail_input.specs.Inputs.{messages};
-ghost use Rattle.kumo_run.specs.Given.{given_by, mail_gives};
-ghost use Rattle.kumo_run.specs.Work.{HasReason, StopsShort, IsMisread, IsUnread, refusal_of, all_sessions};
+ghost use Rattle.kumo_run.specs.MailRead.{mail_read, mail_gives};
+ghost use Rattle.kumo_run.specs.Run.{IsRun};
+ghost use Rattle.kumo_run.specs.Deeds.{all_sessions, RanMail};
+ghost use Rattle.kumo_run.specs.Causes.{RefusesMail};
+ghost use Rattle.kumo_run.specs.inside.SendCauses.{StopsShort, IsMisread, refusal_of};
 
-use crate::dispatcher::{WorkFault, deliver};
+use crate::dispatcher::{DeliveryFault, deliver};
 use crate::refusal::Refusal;
 use crate::registry::Registry;
 use history_core::History;
@@ -28,8 +29,9 @@ pub fn send_mail_text<T: Texts>(
     peers: &mut Vec<ScriptedLinker>,
 ) -> Result<History, Refusal>
     requires { peers.old.items ≡ [] }
-    ensures ok { IfOk result (λ h. Works ((T.seen texts.old).told mail.now) h (all_sessions peers.new.items)) }
-    ensures err { IfErr result (λ why. HasReason why ((T.seen texts.old).told mail.now) (T.seen texts.old).faults (T.seen texts.new).faults (all_sessions peers.new.items)) }
+    ensures ok { IfOk result (λ h. RanMail ((T.seen texts.old).told mail.now) h (all_sessions peers.new.items)) }
+    ensures err { IfErr result (λ why. RefusesMail (T.seen texts.old) (T.seen texts.new) mail.now
+        (all_sessions peers.new.items) why) }
 {
     match read_messages(alloc, texts, mail) {
         Ok(messages) => send(alloc, messages.as_slice(), says, peers),
@@ -43,8 +45,9 @@ fn read_messages<T: Texts>(
     texts: &mut T,
     name: &str,
 ) -> Result<Vec<Message>, Refusal>
-    ensures ok { IfSome ((T.seen texts.old).told name.now) (λ text. IfOk result (λ ms. given_by text ≡ mail_gives (messages ms.items))) }
-    ensures err { IfErr result (λ why. IsUnread why ((T.seen texts.old).told name.now) (T.seen texts.old).faults (T.seen texts.new).faults) }
+    ensures ok { IfSome ((T.seen texts.old).told name.now)
+        (λ text. IfOk result (λ ms. mail_read text ≡ mail_gives (messages ms.items))) }
+    ensures err { IfErr result (λ why. RefusesMail (T.seen texts.old) (T.seen texts.new) name.now [] why) }
     ensures proper { IfOk result (λ ms. All IsProperMessage ms.items) }
 {
     match read_text(alloc, texts, name, TEXT_LIMIT) {
@@ -55,10 +58,10 @@ fn read_messages<T: Texts>(
 }
 
 /// The messages that a mail text gives, where it is not too long.
-#[tactic(auto, unfolding(crate::specs::Given::given_by))]
+#[tactic(auto, unfolding(crate::specs::MailRead::mail_read))]
 fn messages_in(alloc: Global, text: &[u8]) -> Result<Vec<Message>, Refusal>
-    ensures ok { IfOk result (λ ms. given_by text.now ≡ mail_gives (messages ms.items)) }
-    ensures err { IfErr result (λ why. IsMisread why (given_by text.now)) }
+    ensures ok { IfOk result (λ ms. mail_read text.now ≡ mail_gives (messages ms.items)) }
+    ensures err { IfErr result (λ why. IsMisread why (mail_read text.now)) }
     ensures proper { IfOk result (λ ms. All IsProperMessage ms.items) }
 {
     if text.len() > TEXT_LIMIT {
@@ -133,9 +136,9 @@ fn send_one(
             Ok(()) => Ok(registry.into_history()),
             Err(Memory) => Err(Refusal::Memory),
         },
-        Err(WorkFault::NotDelivered) => Err(Refusal::NotYetReply),
+        Err(DeliveryFault::NotDelivered) => Err(Refusal::NotYetReply),
         // A scripted linker fails to open a link for want of memory alone.
-        Err(WorkFault::NotOpened) => Err(Refusal::Memory),
-        Err(WorkFault::Memory) => Err(Refusal::Memory),
+        Err(DeliveryFault::NotOpened) => Err(Refusal::Memory),
+        Err(DeliveryFault::Memory) => Err(Refusal::Memory),
     }
 }

@@ -2,10 +2,10 @@
 ghost use Rattle.std.specs.Prelude.{◌≡◌, ◌≤◌, IfOk, IfErr, IsTrue, string_bytes};
 ghost use Rattle.queue_name.specs.QueueName.{is_name};
 ghost use Rattle.command_words.specs.Told.{seen_names, seen_question};
-ghost use Rattle.policy_texts.specs.Policies.{Stops};
 ghost use Rattle.policy_texts.specs.Report.{IsReport};
 ghost use Rattle.policy_texts.specs.Explained.{explanation};
-ghost use Rattle.kumo_run.specs.Printing.{IsCheckText, IsExplainText, HasTextCause, refusal_of_load};
+ghost use Rattle.kumo_run.specs.PolicyAnswers.{IsCheckText, IsExplainText};
+ghost use Rattle.kumo_run.specs.inside.PolicyCauses.{RefusesPolicy, refusal_of_load};
 
 use crate::refusal::Refusal;
 use command_words::{Asked, PolicyNames};
@@ -23,7 +23,8 @@ pub(crate) fn check_text<T: Texts, S: Search>(
     search: &mut S,
 ) -> Result<String, Refusal>
     ensures ok { IfOk result (λ text. IsCheckText (T.seen texts.old).told (seen_names names.now) (string_bytes text)) }
-    ensures err { IfErr result (λ why. HasTextCause (Stops (T.seen texts.old).told (seen_names names.now)) (record { texts_before = (T.seen texts.old).faults; texts_after = (T.seen texts.new).faults; search_before = (S.seen search.old).faults; search_after = (S.seen search.new).faults }) why) }
+    ensures err { IfErr result (λ why. RefusesPolicy (T.seen texts.old) (T.seen texts.new) (S.seen search.old) (S.seen search.new)
+        (seen_names names.now) why) }
     ensures search { (S.seen search.old).faults ≤ (S.seen search.new).faults }
 {
     match load_policy(alloc, texts, names, search) {
@@ -41,7 +42,8 @@ pub(crate) fn explain_text<T: Texts, S: Search>(
 ) -> Result<Text, Refusal>
     requires { IsTrue (is_name (seen_question asked.now).name) }
     ensures ok { IfOk result (λ text. IsExplainText (T.seen texts.old).told (seen_question asked.now) text) }
-    ensures err { IfErr result (λ why. HasTextCause (Stops (T.seen texts.old).told (seen_names asked.now.texts)) (record { texts_before = (T.seen texts.old).faults; texts_after = (T.seen texts.new).faults; search_before = (S.seen search.old).faults; search_after = (S.seen search.new).faults }) why) }
+    ensures err { IfErr result (λ why. RefusesPolicy (T.seen texts.old) (T.seen texts.new) (S.seen search.old) (S.seen search.new)
+        (seen_names asked.now.texts) why) }
     ensures search { (S.seen search.old).faults ≤ (S.seen search.new).faults }
 {
     match load_policy(alloc, texts, &asked.texts, search) {

@@ -1,0 +1,81 @@
+-- What follows of how a command ends.
+use Rattle.std.proofs.Common.{◌≡◌, ℕ, ◌≤◌, ◌<◌, List, length, Option, Some, refl, sym, ap, subst, ◌∙◌, inl, inr, arith}
+use Rattle.kumo_outside.specs.declared.session.Session.{Session}
+use Rattle.queue_name.specs.declared.message.Message.{Message}
+use Rattle.history_core.specs.declared.entry.Entry.{Entry}
+use Rattle.mail_input.specs.Inputs.{Mail, messages, refused as refused_mail}
+use Rattle.command_words.specs.Commands.{Command}
+use Rattle.policy_texts.specs.Texts.{too_long}
+use Rattle.kumo_run.specs.declared.refusal.Refusal.{Refusal}
+use Rattle.kumo_run.specs.declared.refusal.Refusal.TheVariants as refusal
+use Rattle.kumo_run.specs.RefusalLine.{status_of}
+use Rattle.kumo_run.specs.StatusCode.{number_of}
+use Rattle.kumo_run.specs.Outside.{Outside}
+use Rattle.kumo_run.specs.MailRead.{MailRead, too_long as too_long_mail, mail_gives, mail_read, IsMany}
+use Rattle.kumo_run.specs.Ending.{Ending, done, unwritten, unfinished, refused, code_of, Printed}
+use Rattle.kumo_run.specs.Deeds.{Deed, MailSays}
+use Rattle.kumo_run.specs.Causes.{Inputs, no_command, unbuilt, policy, mail, inputs_of, Cause}
+use Rattle.kumo_run.specs.Ends.{Did, EndsCommand}
+use Rattle.kumo_run.specs.Good.{IsGood, IsGoodMail, IsCalm, EndsWell}
+
+-- what is said of a told text
+said_of : (told : Option (List ℕ)) (text : List ℕ) (P : MailRead → Type 0) → told ≡ Some text → MailSays told P → P (mail_read text)
+said_of told text P e h = subst (λ (t : Option (List ℕ)). MailSays t P) e h
+
+other_mail : (found : MailRead) (x y : Mail) → found ≡ mail_gives x → found ≡ mail_gives y → x ≡ y
+other_mail found x y e h = cc
+
+same_messages : (x y : List Message) → messages x ≡ messages y → x ≡ y
+same_messages x y e = cc
+
+not_many : (list : List Message) (found : MailRead) → found ≡ mail_gives (messages list) → length list ≤ 1 → IsMany found → ⊥
+not_many list found gives few many =
+    let same : length list ≡ length many.mail = ap length (same_messages list many.mail (other_mail found _ _ gives many.read)) in
+    let more = many.many in
+    omega (arith, same, more, few)
+
+module _ (b a : Outside) (calm : IsCalm b a) where
+  refused_well : (i : Inputs) (d : Deed) (why : Refusal) → IsGood i b → Cause i b a d why → EndsWell i b (number_of (status_of why)) d.sessions
+  refused_well no_command d why good cause = absurd good
+  refused_well unbuilt d why good cause = absurd good
+  refused_well (policy names) d refusal.Usage good cause = absurd cc
+  refused_well (policy names) d (refusal.Policy f table key why) good cause = absurd (good _ cause)
+  refused_well (policy names) d (refusal.Mail line why) good cause = absurd cause
+  refused_well (policy names) d refusal.ReadFault good cause = absurd (calm.texts cause.1)
+  refused_well (policy names) d refusal.SearchFault good cause = absurd (calm.search cause.1)
+  refused_well (policy names) d refusal.Limit good cause = absurd (good too_long cause)
+  refused_well (policy names) d refusal.Memory good cause = inr (inl refl)
+  refused_well (policy names) d refusal.NotYetWords good cause = absurd cc
+  refused_well (policy names) d refusal.NotYetMail good cause = absurd cause
+  refused_well (policy names) d refusal.NotYetReply good cause = absurd cause
+  refused_well (mail name) d refusal.Usage good cause = absurd cc
+  refused_well (mail name) d (refusal.Policy f table key why) good cause = absurd cause
+  refused_well (mail name) d (refusal.Mail line why) good cause =
+      let says : mail_read good.text ≡ mail_gives (refused_mail line why)
+          = said_of (b.texts.told name) good.text (λ found. found ≡ mail_gives (refused_mail line why)) good.told_is cause in
+      let gives = good.gives in
+      absurd cc
+  refused_well (mail name) d refusal.ReadFault good cause = absurd (calm.texts cause.1)
+  refused_well (mail name) d refusal.SearchFault good cause = absurd cause.0
+  refused_well (mail name) d refusal.Limit good cause =
+      let says : mail_read good.text ≡ too_long_mail
+          = said_of (b.texts.told name) good.text (λ found. found ≡ too_long_mail) good.told_is cause in
+      let gives = good.gives in
+      absurd cc
+  refused_well (mail name) d refusal.Memory good cause = inr (inl refl)
+  refused_well (mail name) d refusal.NotYetWords good cause = absurd cc
+  refused_well (mail name) d refusal.NotYetMail good cause =
+      absurd (not_many good.list (mail_read good.text) good.gives good.few (said_of (b.texts.told name) good.text IsMany good.told_is cause))
+  refused_well (mail name) d refusal.NotYetReply good cause = inr (inr cause)
+
+  by_ending : (c : Option Command) (ending : Ending) (d : Deed) → IsGood (inputs_of c) b → Did ending c b a d
+      → Printed ending b.out a.out d.text → EndsWell (inputs_of c) b (code_of ending) d.sessions
+  by_ending c done d good did printed = inl refl
+  by_ending c unwritten d good did printed = absurd (calm.out printed.0)
+  by_ending c unfinished d good did printed = inr (inl refl)
+  by_ending c (refused why) d good did printed = refused_well (inputs_of c) d why good did.1
+
+pub ends_well : (c : Option Command) (b a : Outside) (code : ℕ) (history : Option (List Entry)) (sessions : List Session)
+    → EndsCommand c b a code history sessions → IsGood (inputs_of c) b → IsCalm b a → EndsWell (inputs_of c) b code sessions
+ends_well c b a code history sessions e good calm =
+    rw (e.status_is, e.sessions_are) (by_ending b a calm c e.ending e.deed good e.did e.printed)

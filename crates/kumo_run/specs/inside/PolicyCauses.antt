@@ -1,0 +1,24 @@
+-- The refusal that a fault of policy texts comes to, and its cause.
+use Rattle.std.specs.Prelude.{List, ℕ}
+use Rattle.kumo_outside.specs.Told.{TextsSeen, SinkSeen}
+use Rattle.kumo_outside.specs.Search.{SearchSeen}
+use Rattle.command_words.specs.Commands.{TextNames}
+use Rattle.policy_texts.specs.declared.load.LoadFault.{LoadFault}
+use Rattle.policy_texts.specs.declared.load.LoadFault.TheVariants as load_fault
+use Rattle.kumo_run.specs.declared.refusal.Refusal.{Refusal}
+use Rattle.kumo_run.specs.declared.refusal.Refusal.TheVariants as refusal
+use Rattle.kumo_run.specs.Outside.{outside}
+use Rattle.kumo_run.specs.Deeds.{nothing_done}
+use Rattle.kumo_run.specs.Causes.{Refuses, policy}
+
+abbrev pub refusal_of_load : LoadFault → Refusal
+refusal_of_load (load_fault.Refused f table key why) = refusal.Policy f table key why
+refusal_of_load load_fault.Limit = refusal.Limit
+refusal_of_load load_fault.ReadFault = refusal.ReadFault
+refusal_of_load load_fault.SearchFault = refusal.SearchFault
+refusal_of_load load_fault.Memory = refusal.Memory
+
+-- a text on policies is refused, whatever the sink shows
+abbrev pub RefusesPolicy : TextsSeen → TextsSeen → SearchSeen → SearchSeen → TextNames → Refusal → Type 0
+RefusesPolicy before after searching searched names why =
+    (b a : SinkSeen) → Refuses (policy names) (outside before b searching) (outside after a searched) nothing_done why
