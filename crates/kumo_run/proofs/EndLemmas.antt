@@ -21,11 +21,23 @@ ends_written : (c : Command) (b a : Outside) (status : Status) (history : Option
 ends_written c b a status history d does is writes =
     elim writes [
       | inl whole ↦ record {
-          ending = done; deed = d; status_is = ap number_of whole.0; history_is = is; sessions_are = refl; did = does; printed = whole.1
-        }
+        ending = done;
+        deed = d;
+        status_is = ap number_of whole.0;
+        history_is = is;
+        sessions_are = refl;
+        did = does;
+        printed = whole.1;
+      }
       | inr failed ↦ record {
-          ending = unwritten; deed = d; status_is = ap number_of failed.0; history_is = is; sessions_are = refl; did = does; printed = failed.1
-        }
+        ending = unwritten;
+        deed = d;
+        status_is = ap number_of failed.0;
+        history_is = is;
+        sessions_are = refl;
+        did = does;
+        printed = failed.1;
+      }
     ]
 
 -- a text was made and written, or the sink failed
@@ -41,9 +53,14 @@ ends_logged c b a status history h sessions does is writes =
     elim writes [
       | inl written ↦ ends_written c b a status history (logged h sessions) does is written
       | inr short ↦ record {
-          ending = unfinished; deed = logged h sessions; status_is = ap number_of short.0; history_is = is; sessions_are = refl;
-          did = (does, refl); printed = short.1
-        }
+        ending = unfinished;
+        deed = logged h sessions;
+        status_is = ap number_of short.0;
+        history_is = is;
+        sessions_are = refl;
+        did = (does, refl);
+        printed = short.1;
+      }
     ]
 
 -- a command was refused
@@ -51,7 +68,13 @@ pub ends_refused : (c : Option Command) (b a : Outside) (status : Status) (histo
     → Refuses (inputs_of c) b a (spoken sessions) why → status ≡ status_of why → history ≡ None
     → WroteUnlessFailed b.out a.out (refusal_line why) → EndsCommand c b a (number_of status) history sessions
 ends_refused c b a status history sessions why refuses is none wrote = record {
-  ending = refused why; deed = spoken sessions; status_is = ap number_of is; history_is = none; sessions_are = refl; did = refuses; printed = wrote;
+  ending = refused why;
+  deed = spoken sessions;
+  status_is = ap number_of is;
+  history_is = none;
+  sessions_are = refl;
+  did = refuses;
+  printed = wrote;
 }
 
 -- the same where no linker was used

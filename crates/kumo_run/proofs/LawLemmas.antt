@@ -52,14 +52,14 @@ module _ (b a : Outside) (calm : IsCalm b a) where
   refused_well (mail name) d (refusal.Policy f table key why) good cause = absurd cause
   refused_well (mail name) d (refusal.Mail line why) good cause =
       let says : mail_read good.text ≡ mail_gives (refused_mail line why)
-          = said_of (b.texts.told name) good.text (λ found. found ≡ mail_gives (refused_mail line why)) good.told_is cause in
+      = said_of (b.texts.told name) good.text (λ found. found ≡ mail_gives (refused_mail line why)) good.told_is cause in
       let gives = good.gives in
       absurd cc
   refused_well (mail name) d refusal.ReadFault good cause = absurd (calm.texts cause.1)
   refused_well (mail name) d refusal.SearchFault good cause = absurd cause.0
   refused_well (mail name) d refusal.Limit good cause =
       let says : mail_read good.text ≡ too_long_mail
-          = said_of (b.texts.told name) good.text (λ found. found ≡ too_long_mail) good.told_is cause in
+      = said_of (b.texts.told name) good.text (λ found. found ≡ too_long_mail) good.told_is cause in
       let gives = good.gives in
       absurd cc
   refused_well (mail name) d refusal.Memory good cause = inr (inl refl)
