@@ -1,0 +1,3 @@
+mod OneView
+mod TurnMoves
+mod Seats

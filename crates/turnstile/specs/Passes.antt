@@ -1,0 +1,18 @@
+-- What contracts see of a pass.
+use Rattle.std.specs.Prelude.{◌≡◌, None}
+use Rattle.atomic_table.specs.Seated.{TableId}
+use Rattle.turnstile.specs.declared.pass.Pass.{Pass}
+use Rattle.turnstile.specs.declared.view.View.{View}
+use Rattle.turnstile.specs.Views.{known}
+
+-- what it knows
+abbrev pub view : Pass → View
+view p = known p.badge.views
+
+-- the turnstile that it is of
+abbrev pub stile_of : Pass → TableId
+stile_of p = p.badge.table_id
+
+-- it has not the turn
+abbrev pub IsIdle : Pass → Type 0
+IsIdle p = (view p).took ≡ None
