@@ -11,10 +11,14 @@
 #![tactic(auto)]
 
 mod chronicle;
+pub mod laws;
+pub mod ledger;
 mod moves;
 mod pass;
 mod steps;
 mod stile;
+#[cfg(test)]
+mod tests;
 mod view;
 
 pub use chronicle::{Chronicle, Code, Counts, Note, Shown};
