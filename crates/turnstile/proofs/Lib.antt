@@ -2,3 +2,4 @@ mod OneView
 mod TurnMoves
 mod Seats
 mod Marks
+mod Chain
