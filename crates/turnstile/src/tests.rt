@@ -1,7 +1,6 @@
 //! Threads that mark one ledger, whose passes meet, and what stands in it then.
-ghost use Rattle.std.specs.Prelude.{◌≡◌, [], ◌∷◌};
+ghost use Rattle.std.specs.Prelude.{◌≡◌, ◌+◌, [], ◌∷◌};
 ghost use Rattle.turnstile.specs.Passes.{view, stile_of, IsIdle, KeepsPlace};
-ghost use Rattle.turnstile.specs.Views.{gave, fresh};
 ghost use Rattle.turnstile.specs.inside.Chain.{IsReady, IsAlone};
 
 use crate::ledger::{Ledger, mark_turn};
@@ -116,13 +115,13 @@ fn eight<R: Threads + Wait + Sync>(
     left && right
 }
 
-/// The next pass, with which the test goes on.
-fn next_pass<R: Abort>(rt: &R, stile: &Turnstile<Ledger>, first: &mut Pass) -> Pass
-    requires table { stile_of first.old ≡ stile.now.table.shared.table_id }
-    requires first { (view first.old).number ≡ 0 }
-    ensures table { stile_of first.new ≡ stile_of first.old }
-    ensures gave { view first.new ≡ gave (view first.old) }
-    ensures fresh { (stile_of result ≡ stile_of first.old) × (view result ≡ fresh (view first.old)) }
+/// The next pass, whose number the test knows.
+fn next_pass<R: Abort>(rt: &R, stile: &Turnstile<Ledger>, first: &mut Pass, number: u32) -> Pass
+    requires first { IsAlone stile.now.table.shared.table_id 0 first.old }
+    requires given { (view first.old).given ≡ number }
+    ensures first { IsAlone stile.now.table.shared.table_id 0 first.new }
+    ensures given { (view first.new).given ≡ number + 1 }
+    ensures alone { IsAlone stile.now.table.shared.table_id number result }
 {
     let Ok(pass) = stile.split(first) else {
         panic!(rt; "a seat")
@@ -152,7 +151,7 @@ fn two_threads_mark_one_ledger(rt: HostRuntime) -> Result<(), Fail> {
     let Ok((stile, mut first)) = Turnstile::new(rt.alloc(), ledger, 2) else {
         panic!(rt; "memory")
     };
-    let mut second = next_pass(&rt, &stile, &mut first);
+    let mut second = next_pass(&rt, &stile, &mut first, 1);
     assert_eq!(rt; second.number(), 1);
     assert_eq!(rt; stile.split(&mut first).err(), Some(NoSeat));
     assert!(rt; pair(&rt, &stile, &mut first, &mut second, 1000));
@@ -207,13 +206,13 @@ fn eight_passes_meet_in_a_chain(rt: HostRuntime) -> Result<(), Fail> {
     let Ok((stile, mut pass0)) = Turnstile::new(rt.alloc(), ledger, 8) else {
         panic!(rt; "memory")
     };
-    let mut pass1 = next_pass(&rt, &stile, &mut pass0);
-    let mut pass2 = next_pass(&rt, &stile, &mut pass0);
-    let mut pass3 = next_pass(&rt, &stile, &mut pass0);
-    let mut pass4 = next_pass(&rt, &stile, &mut pass0);
-    let mut pass5 = next_pass(&rt, &stile, &mut pass0);
-    let mut pass6 = next_pass(&rt, &stile, &mut pass0);
-    let mut pass7 = next_pass(&rt, &stile, &mut pass0);
+    let mut pass1 = next_pass(&rt, &stile, &mut pass0, 1);
+    let mut pass2 = next_pass(&rt, &stile, &mut pass0, 2);
+    let mut pass3 = next_pass(&rt, &stile, &mut pass0, 3);
+    let mut pass4 = next_pass(&rt, &stile, &mut pass0, 4);
+    let mut pass5 = next_pass(&rt, &stile, &mut pass0, 5);
+    let mut pass6 = next_pass(&rt, &stile, &mut pass0, 6);
+    let mut pass7 = next_pass(&rt, &stile, &mut pass0, 7);
     let done = eight(
         &rt, &stile, &mut pass0, &mut pass1, &mut pass2, &mut pass3, &mut pass4, &mut pass5,
         &mut pass6, &mut pass7,
