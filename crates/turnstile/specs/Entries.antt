@@ -1,5 +1,5 @@
 -- Lists of entries: beginnings, the entries of one pass, and what a turn may add.
-use Rattle.std.specs.Prelude.{◌≡◌, ℕ, ◌≤◌, List, ◌++◌, ◌==◌, filter}
+use Rattle.std.specs.Prelude.{◌≡◌, ℕ, ◌≤◌, List, ◌++◌, ◌==◌, filter, Contains}
 use Rattle.turnstile.specs.declared.chronicle.Note.{Note}
 use Rattle.turnstile.specs.declared.chronicle.Counts.{Counts}
 use Rattle.turnstile.specs.declared.chronicle.Shown.{Shown}
@@ -15,6 +15,10 @@ AtMost a b = (a.disk ≤ b.disk) × (a.clock ≤ b.clock) × (a.search ≤ b.sea
 -- the entries with the number `w`, in their order
 abbrev pub own : ℕ → List Note → List Note
 own w es = filter (λ e. e.by == w) es
+
+-- of each of the numbers `ws`, `fs` has exactly the entries that `es` has, in their order
+abbrev pub SameOwn : List ℕ → List Note → List Note → Type 0
+SameOwn ws es fs = (w : ℕ) → Contains ws w → own w fs ≡ own w es
 
 -- each entry has the number `w`
 abbrev pub AllBy : ℕ → List Note → Type 0

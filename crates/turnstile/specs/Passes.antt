@@ -19,4 +19,5 @@ IsIdle p = (view p).took ≡ None
 
 -- whole turns change neither its number nor whom it met
 abbrev pub KeepsPlace : Pass → Pass → Type 0
-KeepsPlace p q = (stile_of q ≡ stile_of p) × IsIdle q × ((view q).number ≡ (view p).number) × ((view q).met ≡ (view p).met) × ((view q).given ≡ (view p).given)
+KeepsPlace p q = (stile_of q ≡ stile_of p) × IsIdle q
+    × ((view q).number ≡ (view p).number) × ((view q).met ≡ (view p).met) × ((view q).given ≡ (view p).given)

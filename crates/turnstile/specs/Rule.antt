@@ -37,14 +37,17 @@ pub record IsSeated (next turn : ℕ) (log : Shown) (views : List View) (i : ℕ
   pub took : (x : Shown) → v.took ≡ Some x → (v.ticket ≡ Some turn) × (x ≡ log)
   pub knows : v.spent ≡ false → Knows log i v
   pub spent : v.spent ≡ true → (v.ticket ≡ None) × (v.took ≡ None)
-  pub met : (w : ℕ) → v.spent ≡ false → Contains v.met w → (w < length views) × ((u : View) → get_elem? views w ≡ some u → u.spent ≡ true)
+  pub met : (w : ℕ) → v.spent ≡ false → Contains v.met w
+      → (w < length views) × ((u : View) → get_elem? views w ≡ some u → u.spent ≡ true)
 
 module _ {T : Type 0} (shown : T → Shown) where
   -- the value in the slot stands for the history, or the view that took it holds it
   abbrev pub Slot : ℕ → Shown → List (maybe.Option (Option T)) → List View → Type 0
   Slot turn log homes views =
-      ((y : T) × (homes ≡ some (Some y) ∷ []) × (shown y ≡ log) × ((i : ℕ) (v : View) → get_elem? views i ≡ some v → v.took ≡ None))
-      ⊎ ((i : ℕ) × (v : View) × (get_elem? views i ≡ some v) × (v.took ≡ Some log) × (((v.away ≡ true) × (homes ≡ none ∷ [])) ⊎ ((v.away ≡ false) × (homes ≡ some None ∷ []))))
+      ((y : T) × (homes ≡ some (Some y) ∷ []) × (shown y ≡ log)
+      × ((i : ℕ) (v : View) → get_elem? views i ≡ some v → v.took ≡ None))
+      ⊎ ((i : ℕ) × (v : View) × (get_elem? views i ≡ some v) × (v.took ≡ Some log)
+      × (((v.away ≡ true) × (homes ≡ none ∷ [])) ⊎ ((v.away ≡ false) × (homes ≡ some None ∷ []))))
 
   pub record Kept (s : State (Option T) View) : Type 0 where
     pub next : ℕ
@@ -57,7 +60,8 @@ module _ {T : Type 0} (shown : T → Shown) where
     pub slot : Slot turn log s.homes s.views
     pub each : (i : ℕ) (v : View) → get_elem? s.views i ≡ some v → IsSeated next turn log s.views i v
     -- tickets out differ
-    pub apart : (i j t : ℕ) (v w : View) → get_elem? s.views i ≡ some v → get_elem? s.views j ≡ some w → v.ticket ≡ Some t → w.ticket ≡ Some t → i ≡ j
+    pub apart : (i j t : ℕ) (v w : View) → get_elem? s.views i ≡ some v → get_elem? s.views j ≡ some w
+        → v.ticket ≡ Some t → w.ticket ≡ Some t → i ≡ j
     -- numbers not yet given have no entries
     pub unborn : (w : ℕ) → length s.views ≤ w → own w log.entries ≡ []
     -- pass 0 counts the numbers given, and is never met

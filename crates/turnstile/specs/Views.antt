@@ -4,14 +4,25 @@ use base.Stored.{gnil}
 use Rattle.turnstile.specs.declared.chronicle.Shown.{Shown}
 use Rattle.turnstile.specs.declared.view.Told.{Told}
 use Rattle.turnstile.specs.declared.view.View.{View}
-use Rattle.turnstile.specs.Entries.{Begins, own}
+use Rattle.turnstile.specs.Entries.{Begins, SameOwn}
 
 abbrev pub untold : Told
 untold = record { entries = []; numbers = [] }
 
 -- the view of a pass that comes with the number `i` and has seen `x`
 abbrev pub newcomer : ℕ → Shown → View
-newcomer i x = record { number = i; ticket = None; took = None; away = false; seen = x; met = []; left = untold; right = untold; given = 1; spent = false }
+newcomer i x = record {
+  number = i;
+  ticket = None;
+  took = None;
+  away = false;
+  seen = x;
+  met = [];
+  left = untold;
+  right = untold;
+  given = 1;
+  spent = false;
+}
 
 -- the numbers whose entries a pass knows whole: its own, and those of the passes that it met
 abbrev pub whose : View → List ℕ
@@ -37,7 +48,12 @@ abbrev pub longer : Shown → Shown → Shown
 longer a b = record {
   stem = a.stem;
   entries = cond (ltb (length a.entries) (length b.entries)) b.entries a.entries;
-  counts = record { disk = max a.counts.disk b.counts.disk; clock = max a.counts.clock b.counts.clock; search = max a.counts.search b.counts.search; high = max a.counts.high b.counts.high };
+  counts = record {
+    disk = max a.counts.disk b.counts.disk;
+    clock = max a.counts.clock b.counts.clock;
+    search = max a.counts.search b.counts.search;
+    high = max a.counts.high b.counts.high;
+  };
 }
 
 -- the pass that stays where `v` met `w`
@@ -58,7 +74,7 @@ ended = record (newcomer 0 nothing) { given = 0; spent = true }
 
 -- of what was told then, `x` has all, and no more entries of its numbers
 abbrev pub IsTold : Told → Shown → Type 0
-IsTold a x = Begins a.entries x.entries × ((w : ℕ) → Contains a.numbers w → own w x.entries ≡ own w a.entries)
+IsTold a x = Begins a.entries x.entries × SameOwn a.numbers a.entries x.entries
 
 -- every other number that was given is that of a pass that was met
 abbrev pub AllMet : View → Type 0

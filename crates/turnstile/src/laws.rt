@@ -13,12 +13,14 @@ use crate::chronicle::Chronicle;
 
 /// At most one pass has the value.
 pub fn one_pass_has_the_value<T: Chronicle>()
-    ensures { (s : State (Option T) View) → Kept T.shown s → (i j : ℕ) (v w : View) (x y : Shown) → get_elem? s.views i ≡ some v → get_elem? s.views j ≡ some w → v.took ≡ Some x → w.took ≡ Some y → i ≡ j }
+    ensures { (s : State (Option T) View) → Kept T.shown s → (i j : ℕ) (v w : View) (x y : Shown)
+        → get_elem? s.views i ≡ some v → get_elem? s.views j ≡ some w → v.took ≡ Some x → w.took ≡ Some y → i ≡ j }
 {}
 
 /// What a turn added is, of its pass's entries, what there is more.
 pub fn turn_adds_its_own_entries()
-    ensures { (w : ℕ) (y x : Shown) (more : List Note) → Follows w y x → x.entries ≡ y.entries ++ more → own w x.entries ≡ own w y.entries ++ more }
+    ensures { (w : ℕ) (y x : Shown) (more : List Note) → Follows w y x
+        → x.entries ≡ y.entries ++ more → own w x.entries ≡ own w y.entries ++ more }
 {}
 
 /// A turn leaves the entries of every other pass as they were.

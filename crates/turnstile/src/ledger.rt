@@ -2,10 +2,10 @@
 //!
 //! It shows how a type becomes a `Chronicle`, and what a caller has of the turnstile's contracts: `mark_turn` adds its
 //! mark behind all that stands in the ledger, and its pass then knows of its own marks exactly those that it made.
-ghost use Rattle.std.specs.Prelude.{◌≡◌, [], ◌∷◌, ◌++◌, MatchBool};
+ghost use Rattle.std.specs.Prelude.{◌≡◌, ◌++◌, MatchBool};
 ghost use Rattle.turnstile.specs.Entries.{Follows, own};
 ghost use Rattle.turnstile.specs.Passes.{view, stile_of, IsIdle, KeepsPlace};
-ghost use Rattle.turnstile.specs.Ledgers.{shown_marks, made};
+ghost use Rattle.turnstile.specs.Ledgers.{shown_marks, with_mark, made};
 
 use crate::chronicle::Chronicle;
 use crate::pass::Pass;
@@ -36,7 +36,7 @@ impl Ledger {
     /// Adds a mark, unless there is no memory: then it answers false, and nothing changes.
     pub fn add(&mut self, by: u32, number: u32) -> bool
         ensures follows { Follows by (shown_marks self.old.marks.items) (shown_marks self.new.marks.items) }
-        ensures added { MatchBool result (self.new.marks.items ≡ self.old.marks.items ++ record { by = by; number = number } ∷ []) (self.new.marks.items ≡ self.old.marks.items) }
+        ensures added { MatchBool result (self.new.marks.items ≡ with_mark self.old.marks.items by number) (self.new.marks.items ≡ self.old.marks.items) }
     {
         self.marks.push(Mark { by, number }).is_ok()
     }
@@ -47,7 +47,7 @@ pub fn mark_turn<R: Wait>(rt: &R, stile: &Turnstile<Ledger>, pass: &mut Pass, nu
     requires table { stile_of pass.old ≡ stile.now.table.shared.table_id }
     requires idle { IsIdle pass.old }
     ensures place { KeepsPlace pass.old pass.new }
-    ensures own { own (view pass.old).number (view pass.new).seen.entries ≡ own (view pass.old).number (view pass.old).seen.entries ++ made result (view pass.old).number number }
+    ensures own { let v = view pass.old in own v.number (view pass.new).seen.entries ≡ own v.number v.seen.entries ++ made result v.number number }
 {
     let mut ledger = stile.enter(rt, pass);
     let done = ledger.add(pass.number(), number);

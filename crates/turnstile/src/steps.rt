@@ -5,7 +5,7 @@
 //! of the slot are looks too. Putting the value back and serving the next ticket are one step.
 ghost use Rattle.std.specs.Prelude.{◌≡◌, ◌≢◌, ℕ, ◌+◌, ◌%◌, ◌^◌, ◌<◌, [], ◌∷◌, true, false, Some, None, Contains};
 ghost use Rattle.turnstile.specs.declared.chronicle.Shown.{Shown};
-ghost use Rattle.turnstile.specs.Entries.{Begins, Follows, own};
+ghost use Rattle.turnstile.specs.Entries.{Begins, Follows, SameOwn, own};
 ghost use Rattle.turnstile.specs.Views.{left_with, gave, fresh, joined, whose, AllMet};
 ghost use Rattle.turnstile.specs.Rule.{Knows};
 ghost use Rattle.turnstile.specs.inside.Steps.{HasNoTicket, Waits, Has};
@@ -47,7 +47,8 @@ pub fn wait_for<T: Chronicle, R: Wait>(board: &Board<T>, rt: &R, seat: &mut Plac
     requires board { (seat.old.table_id ≡ board.now.shared.table_id) × (board.now.shared.table_id.words ≡ 2) }
     requires waits { Waits ticket seat.old.me }
     ensures seat { (seat.new.table_id ≡ seat.old.table_id) × (seat.new.id ≡ seat.old.id) }
-    ensures took { (y : T) × (seat.new.me ≡ (record seat.old.me.0 { took = Some (T.shown y); away = true }, (0, Some y) ∷ [])) × Knows (T.shown y) seat.old.me.0.number seat.old.me.0 }
+    ensures took { (y : T) × (seat.new.me ≡ (record seat.old.me.0 { took = Some (T.shown y); away = true }, (0, Some y) ∷ []))
+        × Knows (T.shown y) seat.old.me.0.number seat.old.me.0 }
 {
     let mut looks = 0;
     for _ in rt.forever() {
@@ -78,7 +79,8 @@ pub fn lay<T: Chronicle>(board: &Board<T>, seat: &mut Place<T>)
 /// Takes the empty slot again.
 pub fn fetch<T: Chronicle>(board: &Board<T>, seat: &mut Place<T>)
     requires board { (seat.old.table_id ≡ board.now.shared.table_id) × (board.now.shared.table_id.words ≡ 2) }
-    requires has { (x : Shown) × (seat.old.me.0.took ≡ Some x) × (seat.old.me.0.away ≡ false) × (seat.old.me.0.spent ≡ false) × (seat.old.me.1 ≡ []) }
+    requires has { (x : Shown) × (seat.old.me.0.took ≡ Some x) × (seat.old.me.0.away ≡ false)
+        × (seat.old.me.0.spent ≡ false) × (seat.old.me.1 ≡ []) }
     ensures seat { (seat.new.table_id ≡ seat.old.table_id) × (seat.new.id ≡ seat.old.id) }
     ensures fetched { seat.new.me ≡ (record seat.old.me.0 { away = true }, (0, None) ∷ []) }
 {
@@ -90,7 +92,8 @@ pub fn take_turn<T: Chronicle, R: Wait>(board: &Board<T>, rt: &R, seat: &mut Pla
     requires board { (seat.old.table_id ≡ board.now.shared.table_id) × (board.now.shared.table_id.words ≡ 2) }
     requires idle { HasNoTicket seat.old.me }
     ensures seat { (seat.new.table_id ≡ seat.old.table_id) × (seat.new.id ≡ seat.old.id) }
-    ensures took { (t : ℕ) × (seat.new.me ≡ (record seat.old.me.0 { ticket = Some t; took = Some (T.shown result); away = false }, [])) }
+    ensures took { (t : ℕ)
+        × (seat.new.me ≡ (record seat.old.me.0 { ticket = Some t; took = Some (T.shown result); away = false }, [])) }
     ensures knows { Knows (T.shown result) seat.old.me.0.number seat.old.me.0 }
 {
     let ticket = draw(board, seat);
@@ -138,7 +141,8 @@ pub fn give_seat<T: Chronicle>(board: &Board<T>, seat: &mut Place<T>) -> Place<T
 
 /// Two seats become one. The look after it tells that what either had seen is a beginning of what the one has seen.
 pub fn join_seats<T: Chronicle>(board: &Board<T>, seat: &mut Place<T>, other: Place<T>)
-    requires board { (seat.old.table_id ≡ board.now.shared.table_id) × (other.table_id ≡ board.now.shared.table_id) × (board.now.shared.table_id.words ≡ 2) }
+    requires board { (seat.old.table_id ≡ board.now.shared.table_id) × (other.table_id ≡ board.now.shared.table_id)
+        × (board.now.shared.table_id.words ≡ 2) }
     requires live { (seat.old.me.0.spent ≡ false) × (other.me.0.spent ≡ false) }
     requires idle { (other.me.0.ticket ≡ None) × (other.me.0.took ≡ None) × (other.me.1 ≡ []) }
     requires second { other.me.0.number ≢ 0 }
@@ -146,8 +150,8 @@ pub fn join_seats<T: Chronicle>(board: &Board<T>, seat: &mut Place<T>, other: Pl
     ensures joined { seat.new.me ≡ (joined seat.old.me.0 other.me.0, seat.old.me.1) }
     ensures prefix { Begins seat.old.me.0.seen.entries seat.new.me.0.seen.entries }
     ensures others_prefix { Begins other.me.0.seen.entries seat.new.me.0.seen.entries }
-    ensures own { (w : ℕ) → Contains (whose seat.old.me.0) w → own w seat.new.me.0.seen.entries ≡ own w seat.old.me.0.seen.entries }
-    ensures others_own { (w : ℕ) → Contains (whose other.me.0) w → own w seat.new.me.0.seen.entries ≡ own w other.me.0.seen.entries }
+    ensures own { SameOwn (whose seat.old.me.0) seat.old.me.0.seen.entries seat.new.me.0.seen.entries }
+    ensures others_own { SameOwn (whose other.me.0) other.me.0.seen.entries seat.new.me.0.seen.entries }
 {
     board.shared.join_seat::<Meet>(seat, other);
     board.shared.load::<Recall>(seat, TURNS);
@@ -155,7 +159,8 @@ pub fn join_seats<T: Chronicle>(board: &Board<T>, seat: &mut Place<T>, other: Pl
 
 /// Takes the table apart with the seat of pass 0, which met all others, and gives the value.
 pub fn open_table<T: Chronicle>(board: Board<T>, seat: Place<T>) -> T
-    requires board { (seat.table_id ≡ board.shared.table_id) × (board.shared.table_id.words ≡ 2) × (board.shared.table_id.slots ≡ 1) }
+    requires board { (seat.table_id ≡ board.shared.table_id)
+        × (board.shared.table_id.words ≡ 2) × (board.shared.table_id.slots ≡ 1) }
     requires first { (seat.me.0.number ≡ 0) × (seat.me.0.spent ≡ false) × (seat.me.0.took ≡ None) × (seat.me.1 ≡ []) }
     requires met { AllMet seat.me.0 }
     ensures knows { Knows (T.shown result) 0 seat.me.0 }

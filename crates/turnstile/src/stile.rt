@@ -5,7 +5,7 @@
 ghost use Rattle.std.specs.Prelude.{◌≡◌, ℕ, ◌<◌, ◌≤◌, ◌≢◌, [], ◌++◌, List, Some, Contains, IfOk, IfErr, OnOk, OnErr};
 ghost use Rattle.turnstile.specs.declared.chronicle.Note.{Note};
 ghost use Rattle.turnstile.specs.declared.chronicle.Shown.{Shown};
-ghost use Rattle.turnstile.specs.Entries.{Begins, AtMost, own, AllBy, Follows};
+ghost use Rattle.turnstile.specs.Entries.{Begins, AtMost, own, SameOwn, AllBy, Follows};
 ghost use Rattle.turnstile.specs.Views.{IsSamePass, newcomer, gave, fresh, joined, left_with, whose, AllMet};
 ghost use Rattle.turnstile.specs.Passes.{view, stile_of, IsIdle};
 
@@ -106,7 +106,7 @@ impl<T: Chronicle> Turnstile<T> {
         ensures took { (view pass.new).took ≡ Some (T.shown result) }
         ensures stem { (T.shown result).stem ≡ (view pass.old).seen.stem }
         ensures prefix { Begins (view pass.old).seen.entries (T.shown result).entries }
-        ensures own { (w : ℕ) → Contains (whose (view pass.old)) w → own w (T.shown result).entries ≡ own w (view pass.old).seen.entries }
+        ensures own { SameOwn (whose (view pass.old)) (view pass.old).seen.entries (T.shown result).entries }
         ensures numbers { AtMost (view pass.old).seen.counts (T.shown result).counts }
     {
         let mut seat = mem::replace(&mut pass.badge, Badge::blank()).into_seat::<Option<T>>();
@@ -131,15 +131,16 @@ impl<T: Chronicle> Turnstile<T> {
 
     /// Takes over what `other` has seen and the numbers that it knows. The pass `other` ends.
     pub fn meet(&self, pass: &mut Pass, other: Pass)
-        requires table { (stile_of pass.old ≡ self.now.table.shared.table_id) × (stile_of other ≡ self.now.table.shared.table_id) }
+        requires table { stile_of pass.old ≡ self.now.table.shared.table_id }
+        requires other_table { stile_of other ≡ self.now.table.shared.table_id }
         requires idle { IsIdle pass.old × IsIdle other }
         requires second { (view other).number ≢ 0 }
         ensures table { stile_of pass.new ≡ stile_of pass.old }
         ensures joined { view pass.new ≡ joined (view pass.old) (view other) }
         ensures prefix { Begins (view pass.old).seen.entries (view pass.new).seen.entries }
         ensures others_prefix { Begins (view other).seen.entries (view pass.new).seen.entries }
-        ensures own { (w : ℕ) → Contains (whose (view pass.old)) w → own w (view pass.new).seen.entries ≡ own w (view pass.old).seen.entries }
-        ensures others_own { (w : ℕ) → Contains (whose (view other)) w → own w (view pass.new).seen.entries ≡ own w (view other).seen.entries }
+        ensures own { SameOwn (whose (view pass.old)) (view pass.old).seen.entries (view pass.new).seen.entries }
+        ensures others_own { SameOwn (whose (view other)) (view other).seen.entries (view pass.new).seen.entries }
     {
         let mut seat = mem::replace(&mut pass.badge, Badge::blank()).into_seat::<Option<T>>();
         let Pass {
@@ -159,7 +160,7 @@ impl<T: Chronicle> Turnstile<T> {
         requires met { AllMet (view pass) }
         ensures stem { (T.shown result).stem ≡ (view pass).seen.stem }
         ensures prefix { Begins (view pass).seen.entries (T.shown result).entries }
-        ensures own { (w : ℕ) → Contains (whose (view pass)) w → own w (T.shown result).entries ≡ own w (view pass).seen.entries }
+        ensures own { SameOwn (whose (view pass)) (view pass).seen.entries (T.shown result).entries }
         ensures others { (w : ℕ) → ¬ Contains (whose (view pass)) w → own w (T.shown result).entries ≡ [] }
         ensures numbers { AtMost (view pass).seen.counts (T.shown result).counts }
     {

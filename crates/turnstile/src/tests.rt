@@ -106,10 +106,12 @@ fn eight<R: Threads + Wait + Sync>(
     let (left, right) = join_mut(
         rt,
         &mut || -> bool
-            requires { IsReady stile.now.table.shared.table_id pass0.now × IsReady stile.now.table.shared.table_id pass1.now × IsReady stile.now.table.shared.table_id pass2.now × IsReady stile.now.table.shared.table_id pass3.now }
+            requires { IsReady stile.now.table.shared.table_id pass0.now × IsReady stile.now.table.shared.table_id pass1.now
+                × IsReady stile.now.table.shared.table_id pass2.now × IsReady stile.now.table.shared.table_id pass3.now }
         { four(rt, stile, pass0, pass1, pass2, pass3) },
         &mut || -> bool
-            requires { IsReady stile.now.table.shared.table_id pass4.now × IsReady stile.now.table.shared.table_id pass5.now × IsReady stile.now.table.shared.table_id pass6.now × IsReady stile.now.table.shared.table_id pass7.now }
+            requires { IsReady stile.now.table.shared.table_id pass4.now × IsReady stile.now.table.shared.table_id pass5.now
+                × IsReady stile.now.table.shared.table_id pass6.now × IsReady stile.now.table.shared.table_id pass7.now }
         { four(rt, stile, pass4, pass5, pass6, pass7) },
     );
     left && right

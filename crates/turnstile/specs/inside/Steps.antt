@@ -18,7 +18,8 @@ module _ {T : Type 0} (shown : T → Shown) where
   -- where the ticket is served the value was taken; else nothing changed
   abbrev pub looked : Step (Option T) → Sat → ℕ → Sat → Type 0
   looked st m found m' = (t : ℕ) → m.0.ticket ≡ Some t → m.0.took ≡ None → m.0.spent ≡ false → m.1 ≡ []
-      → (found ≡ t % 2 ^ 64 → (y : T) × (m' ≡ (record m.0 { took = Some (shown y); away = true }, (0, Some y) ∷ [])) × Knows (shown y) m.0.number m.0)
+      → (found ≡ t % 2 ^ 64 → (y : T) × (m' ≡ (record m.0 { took = Some (shown y); away = true }, (0, Some y) ∷ []))
+      × Knows (shown y) m.0.number m.0)
       × (¬ (found ≡ t % 2 ^ 64) → m' ≡ m)
 
   -- the value was put back, and the turn passed
@@ -35,7 +36,9 @@ module _ {T : Type 0} (shown : T → Shown) where
 
   -- what two passes had seen that met, and that the next number has no entries in what pass 0 has seen
   abbrev pub recalled : Step (Option T) → Sat → ℕ → Sat → Type 0
-  recalled st m found m' = (m' ≡ m) × (m.0.spent ≡ false → IsTold m.0.left m.0.seen × IsTold m.0.right m.0.seen × (m.0.number ≡ 0 → own m.0.given m.0.seen.entries ≡ []))
+  recalled st m found m' = (m' ≡ m)
+      × (m.0.spent ≡ false → IsTold m.0.left m.0.seen × IsTold m.0.right m.0.seen
+      × (m.0.number ≡ 0 → own m.0.given m.0.seen.entries ≡ []))
 
 module _ {T : Type 0} where
   -- it has no ticket
