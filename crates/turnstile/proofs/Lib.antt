@@ -2,4 +2,3 @@ mod OneView
 mod TurnMoves
 mod Seats
 mod Marks
-mod Chain

@@ -21,6 +21,13 @@ at_below [] i a e = absurd (some-ne-none a (sym e))
 at_below (x ∷ xs) zero a e = omega arith
 at_below (x ∷ xs) (suc i) a e = let h = at_below xs i a e in omega arith
 
+-- a table of two words has the first and the second
+pub has_first : {n : ℕ} → n ≡ 2 → 0 < n
+has_first two = subst (λ k. 0 < k) (sym two) (omega arith)
+
+pub has_second : {n : ℕ} → n ≡ 2 → 1 < n
+has_second two = subst (λ k. 1 < k) (sym two) (omega arith)
+
 pub begins_on : (a b c : List Note) → Begins a b → Begins b c → Begins a c
 begins_on a b c x y = (x.0 ++ y.0, y.1 ∙ ap (λ z. z ++ y.0) x.1 ∙ append_assoc a x.0 y.0)
 

@@ -4,7 +4,7 @@
 //! mark behind all that stands in the ledger, and its pass then knows of its own marks exactly those that it made.
 ghost use Rattle.std.specs.Prelude.{◌≡◌, ◌++◌, MatchBool};
 ghost use Rattle.turnstile.specs.Entries.{Follows, own};
-ghost use Rattle.turnstile.specs.Passes.{view, stile_of, IsIdle, KeepsPlace};
+ghost use Rattle.turnstile.specs.Passes.{view, stile_of, id_of, IsIdle, KeepsPlace};
 ghost use Rattle.turnstile.specs.Ledgers.{shown_marks, with_mark, made};
 
 use crate::chronicle::Chronicle;
@@ -44,7 +44,7 @@ impl Ledger {
 
 /// One turn that adds a mark. It answers false where there is no memory for it.
 pub fn mark_turn<R: Wait>(rt: &R, stile: &Turnstile<Ledger>, pass: &mut Pass, number: u32) -> bool
-    requires table { stile_of pass.old ≡ stile.now.table.shared.table_id }
+    requires table { stile_of pass.old ≡ id_of stile.now }
     requires idle { IsIdle pass.old }
     ensures place { KeepsPlace pass.old pass.new }
     ensures own { let v = view pass.old in own v.number (view pass.new).seen.entries ≡ own v.number v.seen.entries ++ made result v.number number }

@@ -17,8 +17,6 @@ mod moves;
 mod pass;
 mod steps;
 mod stile;
-#[cfg(test)]
-mod tests;
 mod view;
 
 pub use chronicle::{Chronicle, Code, Counts, Note, Shown};

@@ -7,7 +7,6 @@ ghost use Rattle.turnstile.specs.declared.chronicle.Note.{Note};
 ghost use Rattle.turnstile.specs.declared.chronicle.Shown.{Shown};
 ghost use Rattle.turnstile.specs.Entries.{Begins, AtMost, own, SameOwn, AllBy, Follows};
 ghost use Rattle.turnstile.specs.Views.{IsSamePass, newcomer, gave, fresh, joined, left_with, whose, AllMet};
-ghost use Rattle.turnstile.specs.Passes.{view, stile_of, IsIdle};
 
 use crate::chronicle::Chronicle;
 use crate::pass::{NoSeat, Pass};
@@ -29,13 +28,15 @@ pub struct Turnstile<T: Chronicle> {
 }
 
 impl<T: Chronicle> Turnstile<T> {
+    ghost use Rattle.turnstile.specs.Passes.{view, stile_of, id_of, seats_of, IsIdle};
+
     /// A turnstile around `value` with the first pass, whose number is 0. The entries of the value are the pass's own.
     /// Where there is no memory the value comes back.
     pub fn new(alloc: Global, value: T, seats: u32) -> Result<(Turnstile<T>, Pass), (Memory, T)>
         requires seats { 0 < seats }
         requires first { AllBy 0 (T.shown value).entries }
-        ensures seats { IfOk result (λ p. p.0.seats ≡ seats) }
-        ensures table { IfOk result (λ p. stile_of p.1 ≡ p.0.table.shared.table_id) }
+        ensures seats { IfOk result (λ p. seats_of p.0 ≡ seats) }
+        ensures table { IfOk result (λ p. stile_of p.1 ≡ id_of p.0) }
         ensures view { IfOk result (λ p. view p.1 ≡ newcomer 0 (T.shown value)) }
         ensures err { IfErr result (λ e. e.1 ≡ value) }
     {
@@ -72,11 +73,11 @@ impl<T: Chronicle> Turnstile<T> {
     /// exactly where as many passes as there are seats were made, and then nothing changes. It may be called at any time,
     /// also while `pass` has the turn: the new pass has seen what `pass` had seen before it entered.
     pub fn split(&self, pass: &mut Pass) -> Result<Pass, NoSeat>
-        requires table { stile_of pass.old ≡ self.now.table.shared.table_id }
+        requires table { stile_of pass.old ≡ id_of self.now }
         requires first { (view pass.old).number ≡ 0 }
         ensures table { stile_of pass.new ≡ stile_of pass.old }
-        ensures seat { OnOk result ((view pass.old).given < self.now.seats) }
-        ensures no_seat { OnErr result (self.now.seats ≤ (view pass.old).given) }
+        ensures seat { OnOk result ((view pass.old).given < seats_of self.now) }
+        ensures no_seat { OnErr result (seats_of self.now ≤ (view pass.old).given) }
         ensures gave { OnOk result (view pass.new ≡ gave (view pass.old)) }
         ensures fresh { IfOk result (λ p. (stile_of p ≡ stile_of pass.old) × (view p ≡ fresh (view pass.old))) }
         ensures no_own { IfOk result (λ p. own (view p).number (view p).seen.entries ≡ []) }
@@ -99,7 +100,7 @@ impl<T: Chronicle> Turnstile<T> {
 
     /// Waits for the turn and takes the value. It need not return: nothing is said of whether and when a pass is served.
     pub fn enter<R: Wait>(&self, rt: &R, pass: &mut Pass) -> T
-        requires table { stile_of pass.old ≡ self.now.table.shared.table_id }
+        requires table { stile_of pass.old ≡ id_of self.now }
         requires idle { IsIdle pass.old }
         ensures table { stile_of pass.new ≡ stile_of pass.old }
         ensures same { IsSamePass (view pass.old) (view pass.new) }
@@ -117,7 +118,7 @@ impl<T: Chronicle> Turnstile<T> {
 
     /// Puts the value back and serves the next ticket. What the turn added carries the pass's number, and counts as seen.
     pub fn leave(&self, pass: &mut Pass, value: T)
-        requires table { stile_of pass.old ≡ self.now.table.shared.table_id }
+        requires table { stile_of pass.old ≡ id_of self.now }
         requires follows { (x : Shown) × ((view pass.old).took ≡ Some x) × Follows (view pass.old).number x (T.shown value) }
         ensures table { stile_of pass.new ≡ stile_of pass.old }
         ensures left { view pass.new ≡ left_with (T.shown value) (view pass.old) }
@@ -131,8 +132,8 @@ impl<T: Chronicle> Turnstile<T> {
 
     /// Takes over what `other` has seen and the numbers that it knows. The pass `other` ends.
     pub fn meet(&self, pass: &mut Pass, other: Pass)
-        requires table { stile_of pass.old ≡ self.now.table.shared.table_id }
-        requires other_table { stile_of other ≡ self.now.table.shared.table_id }
+        requires table { stile_of pass.old ≡ id_of self.now }
+        requires other_table { stile_of other ≡ id_of self.now }
         requires idle { IsIdle pass.old × IsIdle other }
         requires second { (view other).number ≢ 0 }
         ensures table { stile_of pass.new ≡ stile_of pass.old }
@@ -154,7 +155,7 @@ impl<T: Chronicle> Turnstile<T> {
 
     /// Takes the turnstile apart, once pass 0 has met every other pass, itself or by one that it met.
     pub fn close(self, pass: Pass) -> T
-        requires table { stile_of pass ≡ self.table.shared.table_id }
+        requires table { stile_of pass ≡ id_of self }
         requires first { (view pass).number ≡ 0 }
         requires idle { IsIdle pass }
         requires met { AllMet (view pass) }

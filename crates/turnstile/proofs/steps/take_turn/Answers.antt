@@ -1,11 +1,11 @@
-use Rattle.std.proofs.Common.{rules, ◌≡◌, sym, ap, ◌∙◌, subst, Some, None, ◌∷◌}
+use Rattle.std.proofs.Common.{◌≡◌, sym, ap, ◌∙◌, subst, Some, None, ◌∷◌}
 use Rattle.atomic_table.specs.Table.{rest}
 use Rattle.turnstile.specs.Rule.{Knows}
 use Rattle.turnstile.proofs.TurnMoves.{some_same, carried_one, unticketed}
 use Rattle.turnstile.proofs.steps.take_turn.Goals as goal
 
 pub exchange-held-requires : goal.exchange-held-requires
-exchange-held-requires g c = let took = c.wait_for.ensures.took in (search rules, (Some took.0, ap (λ m. m.1) took.1 ∙ sym (ap (λ m. (0, Some took.0) ∷ rest m.1) took.1)))
+exchange-held-requires g c = let took = c.wait_for.ensures.took in (c.wait_for.ensures.seat.0 ∙ c.draw-ticket.ensures.seat.0 ∙ c.requires.board.0, (Some took.0, ap (λ m. m.1) took.1 ∙ sym (ap (λ m. (0, Some took.0) ∷ rest m.1) took.1)))
 
 pub lay-requires-clause-has : goal.lay-requires-clause-has
 lay-requires-clause-has g c = let took = c.wait_for.ensures.took in let e = c.exchange-held.ensures.3 in let drew = c.draw-ticket.ensures.ticket in (
