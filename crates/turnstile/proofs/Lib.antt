@@ -1,0 +1,4 @@
+mod OneView
+mod TurnMoves
+mod Seats
+mod Marks

@@ -1,0 +1,15 @@
+use Rattle.std.proofs.Common.{◌≡◌, arith, refl, ap, ◌∙◌, subst, MatchBool, ◌++◌, ◌∷◌, []}
+use Rattle.turnstile.specs.Entries.{own}
+use Rattle.turnstile.specs.Passes.{view}
+use Rattle.turnstile.proofs.Marks.{one_marked}
+use Rattle.turnstile.proofs.ledger.mark_turn.Goals as goal
+
+pub returns-clause-own : goal.returns-clause-own
+returns-clause-own g c =
+    let v = view c.args.pass.now in
+    let by : c.number.result ≡ v.number = c.number.ensures ∙ c.enter-ledger.ensures.same.0 in
+    let before = c.enter-ledger.result.marks.items in
+    let after = c.add-done.new.self.marks.items in
+    let added = subst (λ n. MatchBool c.add-done.result (after ≡ before ++ record { by = n; number = c.args.number } ∷ []) (after ≡ before)) by c.add-done.ensures.added in
+    ap (λ w. own v.number w.seen.entries) c.leave.ensures.left
+    ∙ one_marked c.add-done.result v.number c.args.number before after v.seen.entries added (c.enter-ledger.ensures.own v.number (0, omega arith, refl))
