@@ -59,7 +59,10 @@ fn shown_puts(alloc: Global, mut out: MemSink) -> Result<String, Fail> {
 fn chosen_puts_fail(rt: HostRuntime) -> Result<(), Fail> {
     let alloc = rt.alloc();
     let out = MemSink::new(alloc, vec![in alloc; 2]?);
-    assert_eq!(rt; shown_puts(alloc, out)?.as_str(), "Ok(2) Err(Failed) Ok(()) abef");
+    assert_eq!(rt;
+        shown_puts(alloc, out)?.as_str(),
+        "Ok(2) Err(Failed) Ok(()) abef"
+    );
     Ok(())
 }
 

@@ -154,7 +154,13 @@ pub(crate) fn heard_slowly(alloc: Global, bytes: &[u8]) -> Result<String, Fail> 
         let (front, _) = bytes.split_at(at + 1);
         if is_reply(front) {
             let text = one_line_text(alloc, front)?;
-            return shown(alloc, at + 1, Heard::Whole, number_of(code_in(front)), text.as_str());
+            return shown(
+                alloc,
+                at + 1,
+                Heard::Whole,
+                number_of(code_in(front)),
+                text.as_str(),
+            );
         }
         if !is_front(front) {
             return shown(alloc, at + 1, Heard::Bad(at), 0, "");

@@ -58,7 +58,11 @@ fn too_large() -> &'static str {
 #[test]
 fn patterns_are_built(rt: HostRuntime) -> Result<(), Fail> {
     for row in patterns().lines() {
-        assert_eq!(rt; built(rt.alloc(), row.trim_matches('`'))?.as_str(), "Ok(true)", "at {row}");
+        assert_eq!(rt;
+            built(rt.alloc(), row.trim_matches('`'))?.as_str(),
+            "Ok(true)",
+            "at {row}"
+        );
     }
     let deep = nested(rt.alloc(), PATTERN_DEPTH_LIMIT)?;
     assert_eq!(rt; built(rt.alloc(), deep.as_str())?.as_str(), "Ok(true)");
@@ -68,7 +72,11 @@ fn patterns_are_built(rt: HostRuntime) -> Result<(), Fail> {
 #[test]
 fn other_texts_are_not_built(rt: HostRuntime) -> Result<(), Fail> {
     for row in no_patterns().lines() {
-        assert_eq!(rt; built(rt.alloc(), row.trim_matches('`'))?.as_str(), "Ok(false)", "at {row}");
+        assert_eq!(rt;
+            built(rt.alloc(), row.trim_matches('`'))?.as_str(),
+            "Ok(false)",
+            "at {row}"
+        );
     }
     let deeper = nested(rt.alloc(), PATTERN_DEPTH_LIMIT + 1)?;
     assert_eq!(rt; built(rt.alloc(), deeper.as_str())?.as_str(), "Ok(false)");
@@ -95,7 +103,11 @@ fn found_rows() -> [(&'static str, &'static str, &'static str); 10] {
 #[test]
 fn patterns_are_found_in_texts(rt: HostRuntime) -> Result<(), Fail> {
     for (pattern, text, wanted) in found_rows() {
-        assert_eq!(rt; found(rt.alloc(), pattern, text)?.as_str(), wanted, "at {pattern} in {text}");
+        assert_eq!(rt;
+            found(rt.alloc(), pattern, text)?.as_str(),
+            wanted,
+            "at {pattern} in {text}"
+        );
     }
     Ok(())
 }

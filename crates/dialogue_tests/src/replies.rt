@@ -117,7 +117,11 @@ fn long_rows() -> [(Filled, &'static str, Filled); 4] {
         (("250 ", 4095, "\n"), "4096 Whole 250 ", ("250 ", 512, "")),
         (("250 ", 4096, "\n"), "4096 TooLong 0 ", ("", 0, "")),
         (("250-", 4092, "\n251"), "4096 Bad(4095) 0 ", ("", 0, "")),
-        (("250-", 511, "\r\n250 bc\r\n"), "521 Whole 250 ", ("250 ", 511, " ")),
+        (
+            ("250-", 511, "\r\n250 bc\r\n"),
+            "521 Whole 250 ",
+            ("250 ", 511, " "),
+        ),
     ]
 }
 
@@ -216,7 +220,10 @@ fn heard_after_restart(alloc: Global, reader: &mut ReplyReader) -> Result<String
     let bad = reader.feed(bytes_of("25x"));
     reader.restart();
     let whole = reader.feed(bytes_of("250 a\n"));
-    Ok(format!(in alloc; "{} {:?}, {} {:?}", bad.used, bad.what, whole.used, whole.what)?)
+    Ok(format!(in alloc;
+        "{} {:?}, {} {:?}",
+        bad.used, bad.what, whole.used, whole.what
+    )?)
 }
 
 #[test]

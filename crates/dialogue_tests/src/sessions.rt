@@ -71,18 +71,8 @@ fn session_rows() -> [(&'static str, &'static str, &'static str, &'static str); 
             "EHLO me|MAIL FROM:<s@a>|RCPT TO:<r@b>|",
             "lost ended, dead",
         ),
-        (
-            "554-no|554 way|",
-            "a",
-            "",
-            "refused",
-        ),
-        (
-            "220 a|250-b|550 c|",
-            "a",
-            "EHLO me|",
-            "refused",
-        ),
+        ("554-no|554 way|", "a", "", "refused"),
+        ("220 a|250-b|550 c|", "a", "EHLO me|", "refused"),
     ]
 }
 
@@ -95,7 +85,15 @@ fn sessions_go_as_their_transcripts(rt: HostRuntime) -> Result<(), Fail> {
         let sent = wire(alloc, sent, "")?;
         for piece in [1, 2, 3, 4096] {
             let manner = kind(piece);
-            must_go(&rt, alloc, replies.as_str(), body.as_str(), manner, sent.as_str(), came)?;
+            must_go(
+                &rt,
+                alloc,
+                replies.as_str(),
+                body.as_str(),
+                manner,
+                sent.as_str(),
+                came,
+            )?;
         }
     }
     Ok(())
@@ -105,7 +103,10 @@ fn sessions_go_as_their_transcripts(rt: HostRuntime) -> Result<(), Fail> {
 fn stage(number: u32) -> (&'static str, &'static str) {
     match number {
         0 => ("220 a|250 b|", "EHLO me|MAIL FROM:<s@a>|"),
-        1 => ("220 a|250 b|250 c|", "EHLO me|MAIL FROM:<s@a>|RCPT TO:<r@b>|"),
+        1 => (
+            "220 a|250 b|250 c|",
+            "EHLO me|MAIL FROM:<s@a>|RCPT TO:<r@b>|",
+        ),
         2 => (
             "220 a|250 b|250 c|250 d|",
             "EHLO me|MAIL FROM:<s@a>|RCPT TO:<r@b>|DATA|",
@@ -154,7 +155,15 @@ fn each_class_of_reply_at_each_stage(rt: HostRuntime) -> Result<(), Fail> {
         let (before, up_to) = stage(number);
         let replies = wire(alloc, before, class)?;
         let sent = wire(alloc, up_to, behind)?;
-        must_go(&rt, alloc, replies.as_str(), "hi", kind(4096), sent.as_str(), came)?;
+        must_go(
+            &rt,
+            alloc,
+            replies.as_str(),
+            "hi",
+            kind(4096),
+            sent.as_str(),
+            came,
+        )?;
     }
     Ok(())
 }
@@ -179,7 +188,15 @@ fn what_comes_of_reset_changes_no_outcome(rt: HostRuntime) -> Result<(), Fail> {
         let replies = wire(alloc, "220 a|250 b|450-x|450 y|", reply)?;
         let sent = wire(alloc, "EHLO me|MAIL FROM:<s@a>|RSET|", behind)?;
         let manner = Manner { fails, ..kind(1) };
-        must_go(&rt, alloc, replies.as_str(), "hi", manner, sent.as_str(), came)?;
+        must_go(
+            &rt,
+            alloc,
+            replies.as_str(),
+            "hi",
+            manner,
+            sent.as_str(),
+            came,
+        )?;
     }
     Ok(())
 }

@@ -51,7 +51,10 @@ fn a_link_that_stops_at_any_byte(rt: HostRuntime) -> Result<(), Fail> {
             let course = go_through(alloc, front, "hi", manner)?;
             let wanted = cut_came(cut, before.len(), during.len(), fails);
             assert_eq!(rt; course.came.as_str(), wanted, "at {cut}");
-            assert!(rt; whole.as_str().starts_with(course.sent.as_str()), "at {cut}");
+            assert!(rt;
+                whole.as_str().starts_with(course.sent.as_str()),
+                "at {cut}"
+            );
         }
     }
     Ok(())
@@ -77,8 +80,16 @@ fn a_link_that_takes_no_more_at_any_byte(rt: HostRuntime) -> Result<(), Fail> {
     for takes in 0..=whole.len() {
         let manner = Manner { takes, ..kind(5) };
         let course = go_through(alloc, replies.as_str(), "hi", manner)?;
-        assert_eq!(rt; course.came.as_str(), taken_came(takes, whole.len()), "at {takes}");
-        assert_eq!(rt; course.sent.as_str(), whole.as_str().get(..takes).unwrap_or("none"), "at {takes}");
+        assert_eq!(rt;
+            course.came.as_str(),
+            taken_came(takes, whole.len()),
+            "at {takes}"
+        );
+        assert_eq!(rt;
+            course.sent.as_str(),
+            whole.as_str().get(..takes).unwrap_or("none"),
+            "at {takes}"
+        );
     }
     Ok(())
 }
