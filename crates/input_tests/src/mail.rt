@@ -155,7 +155,12 @@ fn front() -> &'static str {
 }
 
 /// What comes of a mail line in which one key has an empty text, and a last one a text of so many bytes `a`.
-fn long_outcome(alloc: Global, empty: &str, long: &str, length: usize) -> Result<String, Fail> {
+fn long_outcome(
+    alloc: Global,
+    empty: &'static str,
+    long: &'static str,
+    length: usize,
+) -> Result<String, Fail> {
     let mut line = Vec::new(alloc);
     for part in [front(), empty, r#"":"",""#, long, r#"":""#] {
         line.extend_from_slice(part.as_bytes())?;
