@@ -1,6 +1,6 @@
 //! The devices in memory, of which chosen calls fail.
 use kumo_base::{Bytes, Text};
-use kumo_outside::{MemSink, MemTexts, Sink, Texts, put_all, read_text};
+use kumo_outside::{MemSink, MemTexts, Sink, Texts, put_all};
 use std::alloc::Global;
 use std::test::Fail;
 
@@ -63,23 +63,5 @@ fn chosen_puts_fail(rt: HostRuntime) -> Result<(), Fail> {
         shown_puts(alloc, out)?.as_str(),
         "Ok(2) Err(Failed) Ok(()) abef"
     );
-    Ok(())
-}
-
-/// What is read of a text up to a limit, or why it is not read.
-fn read_up_to(alloc: Global, name: &str, limit: u32) -> Result<String, Fail> {
-    let mut texts = shelf(alloc, Vec::new(alloc))?;
-    match read_text(alloc, &mut texts, name, limit as usize) {
-        Ok(read) => Ok(String::from_str(alloc, std::str::from_utf8(read.as_slice())?)?),
-        Err(fault) => Ok(format!(in alloc; "{fault:?}")?),
-    }
-}
-
-#[test]
-fn a_text_is_read_up_to_a_limit(rt: HostRuntime) -> Result<(), Fail> {
-    let alloc = rt.alloc();
-    assert_eq!(rt; read_up_to(alloc, "m", 3)?.as_str(), "abc");
-    assert!(rt; read_up_to(alloc, "m", 1)?.as_str().starts_with("ab"));
-    assert_eq!(rt; read_up_to(alloc, "n", 1)?.as_str(), "ReadFault");
     Ok(())
 }

@@ -7,8 +7,6 @@
 #[cfg(test)]
 mod devices;
 #[cfg(test)]
-mod grammar;
-#[cfg(test)]
 mod log_lines;
 #[cfg(test)]
 mod patterns;
@@ -20,5 +18,3 @@ mod script;
 mod scripted_peers;
 #[cfg(test)]
 mod sessions;
-#[cfg(test)]
-mod stops;

@@ -1,87 +1,12 @@
-//! What searches make of patterns, and searches of which chosen calls fail.
-use kumo_outside::{PATTERN_DEPTH_LIMIT, RegexSearch, Search};
+//! Patterns that are found in texts, and searches of which chosen calls fail.
+use kumo_outside::{RegexSearch, Search};
 use std::alloc::Global;
 use std::test::Fail;
-
-/// What a search that fails at no call answers whether a text is a pattern.
-fn built(alloc: Global, pattern: &str) -> Result<String, Fail> {
-    let mut search = RegexSearch::new(alloc, Vec::new(alloc));
-    Ok(format!(in alloc; "{:?}", search.built(pattern))?)
-}
 
 /// What a search that fails at no call answers whether a pattern is found in a text.
 fn found(alloc: Global, pattern: &str, text: &str) -> Result<String, Fail> {
     let mut search = RegexSearch::new(alloc, Vec::new(alloc));
     Ok(format!(in alloc; "{:?}", search.found(pattern, text))?)
-}
-
-/// Patterns, each between two backquotes.
-fn patterns() -> &'static str {
-    r"``
-`slow down`
-`(?i)too many (?P<what>connections|messages)`
-`^4(21|51)|[a-z]{1,50}x$`
-`\bspam\b`
-`(?:ü|é)+`"
-}
-
-/// Texts that are no patterns, each between two backquotes.
-fn no_patterns() -> &'static str {
-    r"`(`
-`a)`
-`[z-a]`
-`*`
-`(?=a)`
-`(a)\1`
-`a{2,1}`
-`\p{NoSuchClass}`"
-}
-
-/// A letter in so many groups.
-fn nested(alloc: Global, depth: u32) -> Result<String, Fail> {
-    let mut text = String::new(alloc);
-    for _ in 0..depth {
-        text.push('(')?;
-    }
-    text.push('a')?;
-    for _ in 0..depth {
-        text.push(')')?;
-    }
-    Ok(text)
-}
-
-/// A pattern whose compiled form is too large.
-fn too_large() -> &'static str {
-    "(?:a{1000}){1000}"
-}
-
-#[test]
-fn patterns_are_built(rt: HostRuntime) -> Result<(), Fail> {
-    for row in patterns().lines() {
-        assert_eq!(rt;
-            built(rt.alloc(), row.trim_matches('`'))?.as_str(),
-            "Ok(true)",
-            "at {row}"
-        );
-    }
-    let deep = nested(rt.alloc(), PATTERN_DEPTH_LIMIT)?;
-    assert_eq!(rt; built(rt.alloc(), deep.as_str())?.as_str(), "Ok(true)");
-    Ok(())
-}
-
-#[test]
-fn other_texts_are_not_built(rt: HostRuntime) -> Result<(), Fail> {
-    for row in no_patterns().lines() {
-        assert_eq!(rt;
-            built(rt.alloc(), row.trim_matches('`'))?.as_str(),
-            "Ok(false)",
-            "at {row}"
-        );
-    }
-    let deeper = nested(rt.alloc(), PATTERN_DEPTH_LIMIT + 1)?;
-    assert_eq!(rt; built(rt.alloc(), deeper.as_str())?.as_str(), "Ok(false)");
-    assert_eq!(rt; built(rt.alloc(), too_large())?.as_str(), "Err(Search)");
-    Ok(())
 }
 
 /// A pattern, a text, and whether it is found there.

@@ -1,7 +1,6 @@
-//! Replies read in pieces, against worked rows and against the grammar on their whole bytes, and outcomes that are proper.
-use crate::grammar::{heard_slowly, shown};
-use kumo_base::{Room, Text};
-use smtp_reply::{Heard, Lost, Outcome, Reply, ReplyReader};
+//! Replies read in pieces, against worked rows.
+use kumo_base::Room;
+use smtp_reply::{Heard, ReplyReader};
 use std::alloc::Global;
 use std::process::Abort;
 use std::test::Fail;
@@ -9,6 +8,11 @@ use std::test::Fail;
 /// The bytes of a text, of which a proof knows nothing.
 fn bytes_of(text: &str) -> &[u8] {
     text.as_bytes()
+}
+
+/// What was made of bytes on one line: how many of them were used, the answer, and the reply where it is whole.
+fn shown(alloc: Global, used: usize, what: Heard, code: u16, text: &str) -> Result<String, Fail> {
+    Ok(format!(in alloc; "{used} {what:?} {code} {text}")?)
 }
 
 /// What a reader makes of bytes that come in pieces of this length.
@@ -93,125 +97,6 @@ fn replies_in_pieces(rt: HostRuntime) -> Result<(), Fail> {
     for (bytes, wanted) in reply_rows() {
         must_be(&rt, rt.alloc(), bytes.as_bytes(), wanted)?;
     }
-    Ok(())
-}
-
-/// A front, how long it is once it is filled up by letters, and an end.
-type Filled = (&'static str, usize, &'static str);
-
-/// A text, behind a front of its own.
-fn filled(alloc: Global, before: &str, parts: Filled) -> Result<String, Fail> {
-    let (front, length, end) = parts;
-    let mut text = String::from_str(alloc, before)?;
-    text.push_str(front)?;
-    for _ in front.len()..length {
-        text.push('a')?;
-    }
-    text.push_str(end)?;
-    Ok(text)
-}
-
-/// Long bytes, what they are, and their text.
-fn long_rows() -> [(Filled, &'static str, Filled); 4] {
-    [
-        (("250 ", 4095, "\n"), "4096 Whole 250 ", ("250 ", 512, "")),
-        (("250 ", 4096, "\n"), "4096 TooLong 0 ", ("", 0, "")),
-        (("250-", 4092, "\n251"), "4096 Bad(4095) 0 ", ("", 0, "")),
-        (
-            ("250-", 511, "\r\n250 bc\r\n"),
-            "521 Whole 250 ",
-            ("250 ", 511, " "),
-        ),
-    ]
-}
-
-#[test]
-fn long_replies(rt: HostRuntime) -> Result<(), Fail> {
-    for (given, before, text) in long_rows() {
-        let bytes = filled(rt.alloc(), "", given)?;
-        let wanted = filled(rt.alloc(), before, text)?;
-        must_be(&rt, rt.alloc(), bytes.as_bytes(), wanted.as_str())?;
-    }
-    Ok(())
-}
-
-/// A number that looks like chance, and the seed of the next.
-fn random(seed: u64) -> u64 {
-    seed.wrapping_mul(6364136223846793005)
-        .wrapping_add(1442695040888963407)
-}
-
-/// Bytes of 1 to 40 of those that matter to replies; every other one begins with a code.
-fn random_bytes(alloc: Global, number: u64) -> Result<Vec<u8>, Fail> {
-    let alphabet = [b'2', b'3', b'4', b'5', b'-', b' ', b'\r', b'\n', b'x', 200];
-    let mut bytes = Vec::new(alloc);
-    let mut seed = random(number);
-    let length = (seed >> 33) % 40 + 1;
-    for place in 0..length {
-        seed = random(seed);
-        let among = if number % 2 == 1 && place < 3 { 1 } else { 10 };
-        if let Some(byte) = alphabet.get(((seed >> 33) % among) as usize) {
-            bytes.push(*byte)?;
-        }
-    }
-    Ok(bytes)
-}
-
-#[test]
-fn any_bytes_as_the_grammar_says(rt: HostRuntime) -> Result<(), Fail> {
-    let mut whole: u32 = 0;
-    for number in 0..2000 {
-        let bytes = random_bytes(rt.alloc(), number)?;
-        let wanted = heard_slowly(rt.alloc(), bytes.as_slice())?;
-        if wanted.as_str().contains("Whole") {
-            whole = whole.saturating_add(1);
-        }
-        must_be(&rt, rt.alloc(), bytes.as_slice(), wanted.as_str())?;
-    }
-    assert!(rt; whole > 100, "only {whole} were whole");
-    Ok(())
-}
-
-fn reply(alloc: Global, code: u16, text: &str) -> Result<Reply, Fail> {
-    Ok(Reply {
-        code,
-        text: Text::of(alloc, text)?,
-    })
-}
-
-/// Whether a reply is proper where it is delivered, transient and permanent.
-fn proper_as(alloc: Global, code: u16, text: &str) -> Result<[bool; 3], Fail> {
-    Ok([
-        Outcome::Delivered(reply(alloc, code, text)?).is_proper(),
-        Outcome::Transient(reply(alloc, code, text)?).is_proper(),
-        Outcome::Permanent(reply(alloc, code, text)?).is_proper(),
-    ])
-}
-
-/// A code, a text, and whether the reply is proper where it is delivered, transient and permanent.
-fn proper_rows() -> [(u16, &'static str, [bool; 3]); 12] {
-    [
-        (250, "250", [true, false, false]),
-        (250, "250 ok", [true, false, false]),
-        (299, "299 x", [true, false, false]),
-        (250, "250 ", [false, false, false]),
-        (250, "251 ok", [false, false, false]),
-        (250, "250-ok", [false, false, false]),
-        (250, "250 o\tk", [false, false, false]),
-        (250, "25", [false, false, false]),
-        (354, "354 go on", [false, false, false]),
-        (451, "451 later", [false, true, false]),
-        (550, "550 no", [false, false, true]),
-        (1250, "1250 no", [false, false, false]),
-    ]
-}
-
-#[test]
-fn proper_outcomes(rt: HostRuntime) -> Result<(), Fail> {
-    for (code, text, wanted) in proper_rows() {
-        assert_eq!(rt; proper_as(rt.alloc(), code, text)?, wanted, "{text}");
-    }
-    assert!(rt; Outcome::Lost(Lost::BadReply).is_proper());
     Ok(())
 }
 

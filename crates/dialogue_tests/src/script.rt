@@ -8,14 +8,11 @@ use smtp_reply::{Lost, Outcome};
 use std::alloc::Global;
 use std::test::Fail;
 
-/// A link that takes and gives bytes in pieces. At the end of its script it ends or fails; behind the bytes that it
-/// takes it fails.
+/// A link that takes and gives bytes in pieces, and ends at the end of its script.
 #[derive(Drop)]
 struct Script<'a> {
     left: &'a [u8],
-    takes: usize,
     piece: usize,
-    fails: bool,
     sent: Vec<u8>,
     ended: bool,
     faults: u64,
@@ -33,24 +30,19 @@ impl<'a> Link for Script<'a> {
     #[tactic(auto, unfolding(kumo_outside::specs::Told::extended))]
     fn send(&mut self, piece: &[u8]) -> Result<usize, Failed> {
         self.ended = false;
-        let count = piece.len().min(self.piece.max(1)).min(self.takes);
+        let count = piece.len().min(self.piece.max(1));
         let (front, _) = piece.split_at(count);
         if count == 0 || self.sent.extend_from_slice(front).is_err() {
             self.faults = self.faults.saturating_add(1);
             return Err(Failed);
         }
-        self.takes -= count;
         Ok(count)
     }
 
     #[tactic(auto, unfolding(kumo_outside::specs::Told::extended))]
     fn recv(&mut self, buffer: &mut [u8]) -> Result<usize, Failed> {
         if self.left.is_empty() {
-            self.ended = !self.fails;
-            if self.fails {
-                self.faults = self.faults.saturating_add(1);
-                return Err(Failed);
-            }
+            self.ended = true;
             return Ok(0);
         }
         self.ended = false;
@@ -62,31 +54,11 @@ impl<'a> Link for Script<'a> {
     }
 }
 
-/// How a link behaves: how many bytes it gives and takes at a time, how many it takes in all, and whether it fails at
-/// the end of its script.
-#[derive(Clone, Copy)]
-pub(crate) struct Manner {
-    pub(crate) piece: usize,
-    pub(crate) takes: usize,
-    pub(crate) fails: bool,
-}
-
-/// A link that gives and takes so many bytes at a time, takes everything, and ends.
-pub(crate) fn kind(piece: usize) -> Manner {
-    Manner {
-        piece,
-        takes: 1_000_000,
-        fails: false,
-    }
-}
-
-/// A link with these replies.
-fn linked<'a>(alloc: Global, replies: &'a [u8], manner: Manner) -> Script<'a> {
+/// A link with these replies, which gives and takes so many bytes at a time, and ends.
+fn linked<'a>(alloc: Global, replies: &'a [u8], piece: usize) -> Script<'a> {
     Script {
         left: replies,
-        takes: manner.takes,
-        piece: manner.piece,
-        fails: manner.fails,
+        piece,
         sent: Vec::new(alloc),
         ended: false,
         faults: 0,
@@ -106,10 +78,10 @@ pub(crate) fn go_through(
     alloc: Global,
     replies: &str,
     body: &str,
-    manner: Manner,
+    piece: usize,
 ) -> Result<Course, Fail> {
     let mut scratch = Scratch::new(alloc)?;
-    let mut link = linked(alloc, replies.as_bytes(), manner);
+    let mut link = linked(alloc, replies.as_bytes(), piece);
     let came = spoken(alloc, &mut link, body, &mut scratch)?;
     let sent = String::from_str(alloc, std::str::from_utf8(link.sent.as_slice())?)?;
     Ok(Course { came, sent })

@@ -24,12 +24,12 @@ pub(crate) const NONE_FAILS: Failing<'_> = Failing {
 
 /// What a run leaves.
 #[derive(Drop)]
-pub(crate) struct Left {
-    pub status: u8,
-    pub output: Vec<u8>,
+struct Left {
+    status: u8,
+    output: Vec<u8>,
     /// The bytes sent over all links.
-    pub sent: Vec<u8>,
-    pub has_history: bool,
+    sent: Vec<u8>,
+    has_history: bool,
 }
 
 /// Runs each command of a transcript, and gives the transcript of these runs.
@@ -69,24 +69,10 @@ fn push_sent(out: &mut String, sent: &[u8]) -> Result<(), Fail> {
     Ok(())
 }
 
-/// Runs the program on the words of a transcript's line.
-pub(crate) fn run(
-    alloc: Global,
-    line: &str,
-    texts: &str,
-    failing: &Failing<'_>,
-) -> Result<Left, Fail> {
-    run_on(alloc, line, shelf_of(alloc, texts)?, failing)
-}
-
-/// Runs the program on the words of a transcript's line, over these texts.
-pub(crate) fn run_on(
-    alloc: Global,
-    line: &str,
-    mut texts: MemTexts,
-    failing: &Failing<'_>,
-) -> Result<Left, Fail> {
+/// Runs the program on the words of a transcript's line, over the texts of these sections.
+fn run(alloc: Global, line: &str, texts: &str, failing: &Failing<'_>) -> Result<Left, Fail> {
     let words = words_of(alloc, line)?;
+    let mut texts = shelf_of(alloc, texts)?;
     let mut out = MemSink::new(alloc, Vec::from_slice(alloc, failing.puts)?);
     let search = RegexSearch::new(alloc, Vec::from_slice(alloc, failing.searches)?);
     let finished = perform(
@@ -106,19 +92,15 @@ pub(crate) fn run_on(
     })
 }
 
-/// The words of a line, behind its `$`. `''` stands for the empty word.
+/// The words of a line, after its `$`.
 fn words_of(alloc: Global, line: &str) -> Result<Vec<Text>, Fail> {
     let mut words = Vec::new(alloc);
     for word in line.split(' ') {
         if word != "$" {
-            words.push(Text::of(alloc, without_quotes(word))?)?;
+            words.push(Text::of(alloc, word)?)?;
         }
     }
     Ok(words)
-}
-
-fn without_quotes(word: &str) -> &str {
-    if word == "''" { "" } else { word }
 }
 
 /// The texts of sections: behind a line end `== NAME`, and on the next lines the text, up to the line end before the next
