@@ -175,7 +175,5 @@ for line in (
 ):
     usage(*line.split())
 
-# A file that is not there cannot be read, nor a folder, and the words are judged before any file.
-case("check --sources none", ["error: read fault"], 5)
-case("check --mx .", ["error: read fault"], 5)
+# The words are judged before any file is read.
 case("check --sources none --sources none", ["error: usage"], 2)
