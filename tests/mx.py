@@ -1,12 +1,20 @@
 """MX tables: the hosts that domains have by them, as sites show them, and the lines that are refused."""
 
-from cases import case, checked, explained, refused
+from cases import checked, explained, refused
 
 
 def site(mx, domain, hosts):
     """What the site of a domain is: its hosts joined by `|`, or the domain itself."""
     explained(domain, queue=domain.lower(), site=hosts, mx=mx)
 
+
+# The example of docs/OPERATING.md.
+EXAMPLE = """# domain and hosts
+bigbox.example    mx1.mx.bigbox.example mx2.mx.bigbox.example
+slowpost.example  mail.slowpost.example
+"""
+site(EXAMPLE, "bigbox.example", "mx1.mx.bigbox.example|mx2.mx.bigbox.example")
+site(EXAMPLE, "slowpost.example", "mail.slowpost.example")
 
 # Texts that give no row.
 for text in ("", "\n", "# no line\n \t \n\r\n\n#", "#a h\n", "#a\n"):
@@ -58,6 +66,10 @@ refused("mx line 3 -: BadName", mx="a-1 h\na h\n~ !\"\n")
 refused("mx line 3 -: BadName", mx="a h\n\nc| h\nb\n")
 refused("mx line 4 -: BadName", mx="\r\n#\r\n\r\na h >")
 
+# A CR at the end of the text ends no line.
+refused("mx line 1 -: BadName", mx="a h\r")
+refused("mx line 2 -: NoHost", mx="a h\n\r")
+
 # A name has at most 255 bytes, without the `.` that is dropped.
 LONGEST = "a" * 255
 site(LONGEST + " h\n", LONGEST, "h")
@@ -72,4 +84,3 @@ site(DOMAINS, "d7077", "mx.all|mx1.d7077|mx2.d7077")
 HOSTS = "".join(f"a h{number} all H{number}.\n" for number in reversed(range(10_000)))
 site(HOSTS, "a", "|".join(sorted({"all"} | {f"h{number}" for number in range(10_000)})))
 checked(mx=DOMAINS)
-case("explain --domain a --mx none", ["error: read fault"], 5)
