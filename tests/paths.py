@@ -1,6 +1,10 @@
-"""Sites and paths: what `explain` tells of a domain and a source, over shaping files and MX tables, and loads of several files."""
+"""Sites and paths: what `explain` tells of a domain and a source, over shaping files and MX tables.
 
-from cases import case, checked, explained, refused
+Which tables lie over which, which domains are of one site, and the lines that are printed. What a shaping file may hold is
+shown in `shaping.py`, and files of several kinds in `policies.py`.
+"""
+
+from cases import explained
 
 # A shaping file with a provider and three domains that have the same hosts, of which one is a site of its own.
 SAMPLE = """["default"]
@@ -35,15 +39,13 @@ def sample(domain, source, site, limit, rate, deliveries, **more):
 
 
 SLOW, QUICK = "100/60000 burst 100", "10/1000 burst 20"
-sample("one.example", "ip-1", BIG, 4, QUICK, 20)
 sample("two.example", "ip-1", BIG, 4, QUICK, 20)
 sample("one.example", "ip-2", BIG, 4, SLOW, 20)
 sample("one.example", "IP-1", BIG, 4, SLOW, 20)
 sample("one.example", "unspecified", BIG, 4, SLOW, 20)
-sample("Solo.Example", "ip-1", "solo.example=" + BIG, 10, SLOW, 20, queue="solo.example")
+sample("solo.example", "ip-2", "solo.example=" + BIG, 10, SLOW, 20)
 sample("b.example", "ip-1", "b.example", 10, SLOW, 1024)
 sample("mx1.big.example", "ip-1", "mx1.big.example", 10, SLOW, 20)
-checked("shaping default enable_tls", shaping=SAMPLE, mx=MX)
 explained("one.example", "ip-1", site=BIG, mx=MX)
 
 # Each option set for all or for a domain, and some once more for one source.
@@ -119,23 +121,18 @@ for domain in ("one.example", "two.example"):
 limit(32, "other.example", BOTH, "h2", mx=SHARED)
 limit(5, "two.example", tables(("'ONE.example'", 5, "")), "h1|h2", mx=SHARED)
 
-# A provider knows a site by a suffix of every host, or of some domain; suffixes are taken in lower case.
+# A provider knows a site by its hosts, and by each of its domains; a domain without rollup is none of them.
 for match, number in (
-    ("{MXSuffix='.Big.Example'}", 7),
-    ("{MXSuffix='mx1.big.example'}", 32),
+    ("{MXSuffix='.big.example'}", 7),
     ("{MXSuffix='.one.example'}", 32),
-    ("{MXSuffix=''}", 7),
+    ("{DomainSuffix='one.example'}", 7),
     ("{DomainSuffix='two.example'}", 7),
-    ("{DomainSuffix='E.EXAMPLE'}", 7),
     ("{DomainSuffix='solo.example'}", 32),
-    ("{DomainSuffix='.big.example'}", 32),
     ("{DomainSuffix='x.one.example'}", 32),
-    ("{DomainSuffix=''}", 7),
-    ("[{MXSuffix='x'}, {DomainSuffix='x'}]", 32),
-    ("[{MXSuffix='x'}, {DomainSuffix='one.example'}]", 7),
 ):
     shaping = tables(("provider.p", 7, f"match = {match}\n")) + "['solo.example']\nmx_rollup = false\n"
     limit(number, "one.example", shaping, BIG, mx=MX)
+limit(7, "solo.example", tables(("provider.p", 7, "match = {DomainSuffix='solo.example'}\n")), BIG, mx=MX)
 
 # The domains of a site are those of MX rows, those of tables, and a host without a row that is its own site.
 limit(7, "one.example", tables(("h", 7, "")), "h", mx="one.example h\n")
@@ -215,45 +212,3 @@ explained(
     shaping=KINDS,
     mx=MX,
 )
-
-# Four files make a policy; the keys without effect of all stand together in byte order.
-FOUR = dict(
-    sources="x = 1\n[source.a]\n[pool.p.a]\n",
-    queues="y = 1\n[queue.default]\negress_pool = 'p'\n",
-    shaping="[default]\nz = 1\n[[default.automation]]\nregex = 'busy'\naction = 'Suspend'\nduration = 1\n",
-    mx="one.example mx1.big.example\n",
-)
-checked("queues - y", "shaping default z", "sources - x", **FOUR)
-explained(
-    "one.example",
-    "a",
-    queue="c:t@one.example",
-    site="mx1.big.example",
-    rules=['Suspend Immediate for 1000 on ["busy"]'],
-    settings={"pool": "p"},
-    words=["--tenant", "t", "--campaign", "c"],
-    **FOUR,
-)
-
-# The first of several faults is the answer, by the order sources, queues, shaping, MX table; pools come behind all files.
-BAD = dict(sources="source = 1", queues="queue = 1", shaping="default = 1", mx="a")
-WHERE = ["sources - source: BadType", "queues - queue: BadType", "shaping - default: BadType", "mx line 1 -: NoHost"]
-for number, name in enumerate(BAD):
-    refused(WHERE[number], **{**FOUR, **dict(list(BAD.items())[number:])})
-    refused(WHERE[number], **{**FOUR, "sources": "", name: BAD[name]})
-POOLS, QUEUES, NO_QUEUES = FOUR["sources"], FOUR["queues"], BAD["queues"]
-for words in (["check"], ["explain", "--domain", "d"]):
-    case([*words, "--queues", "q"], ["error: policy queues queue.default egress_pool: UnknownPool"], 3, q=QUEUES)
-    case([*words, "--sources", "s", "--queues", "q"], ["error: policy queues - queue: BadType"], 3, s=POOLS, q=NO_QUEUES)
-    case([*words, "--queues", "q", "--sources", "none"], ["error: read fault"], 5, q=NO_QUEUES)
-    case([*words, "--queues", "q", "--shaping", "none"], ["error: policy queues - queue: BadType"], 3, q=NO_QUEUES)
-
-# Of several faults in one file the first by its place: `!` stands before `-`, and tables of a list by their numbers.
-refused("sources pool.> !: BadType", sources="[pool.'>']\n'!' = 5\n")
-ZERO = "[queue.a.x]\nretry_interval = 0\n[queue.a-b]\nretry_interval = 0\n"
-refused("queues queue.a-b max_age: BadType", queues=ZERO + "max_age = true\n")
-refused("queues queue.a-b retry_interval: Zero", queues=ZERO)
-RULE = "[[x.automation]]\nregex = {}\naction = 'Suspend'\nduration = 1\n"
-LISTED = [RULE.format(regex) for regex in ("'a'", "['a', '(', ')']", *["'a'"] * 7, "'('")]
-refused("shaping x.automation.2 regex: BadPattern", shaping="".join(LISTED))
-refused("shaping x.automation.10 regex: BadPattern", shaping="".join([LISTED[0], LISTED[0], *LISTED[2:]]))

@@ -1,4 +1,7 @@
-"""Queues files: the settings that `explain` tells of a queue, the keys without effect, the names, and each refusal."""
+"""Queues files: the settings that `explain` tells of a queue, the keys without effect, the names, and each refusal.
+
+Pools that are not there are shown in `policies.py`, and durations in `values.py`.
+"""
 
 from cases import checked, explained, refused
 
@@ -204,16 +207,3 @@ for text, place in (
     ("[queue.'a!']\n'-' = {max_age = true}\n[queue.'A!']", "queue.A! -: BadName"),
 ):
     refused("queues " + place, queues=text)
-
-# A layer that names a pool that is not there, the first table in byte order with domains in lower case.
-for table in ("queue.default", "tenant.t", "queue.a", "queue.a.x", "queue.a.x.c"):
-    refused(f"queues {table} egress_pool: UnknownPool", queues=f"[{table}]\negress_pool = 'nope'\n")
-for text, place in (
-    ("[queue.'a-b']\negress_pool = 'P0'\n", "queue.a-b"),
-    ("[queue.a.x]\negress_pool = 'gone'\n[queue.a-b]\negress_pool = 'gone'\n", "queue.a-b"),
-    ("[queue.b]\negress_pool = 'gone'\n[queue.C]\negress_pool = 'gone'\n", "queue.b"),
-    ("[queue.B]\negress_pool = ''\n[tenant.T]\negress_pool = 'gone'\n", "queue.b"),
-    ("[queue.default]\negress_pool = 'gone'\n[queue.c]\negress_pool = 'p0'\n", "queue.default"),
-):
-    refused(f"queues {place} egress_pool: UnknownPool", sources=SOURCES, queues=text)
-checked(queues="[queue.default]\negress_pool = 'unspecified'\n")

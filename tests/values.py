@@ -1,4 +1,8 @@
-"""Values of policy files: durations, throttles and numbers, as `explain` tells them, and the texts that are none."""
+"""Values of policy files: durations, throttles and numbers, as `explain` tells them, and the texts that are none.
+
+They are shown at one key each, as `max_age` and `max_message_rate`; that other keys take them too is shown in the modules of
+their files.
+"""
 
 from cases import explained, refused
 
@@ -155,25 +159,3 @@ for value in ("'x'", "'-5'", "'0x5'", "'Local:5'", "'local:local:5'", "'99999999
     refused("shaping default connection_limit: BadOption", shaping=f"[default]\nconnection_limit = {value}\n")
 for value in ("true", "1.5", "1.0", "[]", "{}", "[5]"):
     refused("shaping default connection_limit: BadType", shaping=f"[default]\nconnection_limit = {value}\n")
-for option in ("max_deliveries_per_connection", "max_ready", "consecutive_connection_failures_before_delay"):
-    for value, number in (("1", 1), ("'local:1000000'", 1_000_000)):
-        explained("d", options={option: number}, shaping=f"[default]\n{option} = {value}\n")
-    for value in ("0", "1000001", "'x'"):
-        refused(f"shaping default {option}: BadOption", shaping=f"[default]\n{option} = {value}\n")
-
-
-def rule(keys, told):
-    """What is told of a rule with these keys."""
-    explained("d", rules=[f'Suspend {told} on ["x"]'], shaping=f"[[default.automation]]\nregex = 'x'\naction = 'Suspend'\n{keys}\n")
-
-
-# The duration of a rule, and its trigger: 1 to 10,000 replies within a unit.
-rule("duration = 0", "Immediate for 0")
-rule("duration = '36500d'", f"Immediate for {LONGEST}")
-for text, count, period in (("1/s", 1, SECOND), ("10000/day", 10_000, DAY), ("1_0/hrs", 10, HOUR), ("0001/minutes", 1, MINUTE)):
-    rule(f"duration = '1m'\ntrigger = {{Threshold='{text}'}}", f"Threshold {count}/{period} for 60000")
-RULE = "[[default.automation]]\nregex = 'x'\naction = 'Suspend'\n"
-for text in ("0/s", "10001/s", "local:5/s", "5/s,max_burst=5", "5", "", "5/week", "5/ms", "5/S", "x/s"):
-    refused("shaping default.automation.1 trigger: BadTrigger", shaping=f"{RULE}duration = 1\ntrigger = {{Threshold='{text}'}}\n")
-for value in ("'1'", "''", "-1", "3153600001", "'36501d'"):
-    refused("shaping default.automation.1 duration: BadDuration", shaping=f"{RULE}duration = {value}\n")
