@@ -317,9 +317,14 @@ checked(
     "shaping default.automation.1 action",
     shaping=ACTIONS,
 )
-OF_ACTIONS = ['SetConfig none I "a"', 'Suspend I "a"', 'SetConfig none I "a"', 'SetConfig max_ready=1 I "b"', 'SetConfig none I "c"']
-OF_ACTIONS = [line.replace(" I ", " Immediate for 1000 on [") + "]" for line in OF_ACTIONS]
-explained("a", "s", rules=OF_ACTIONS, shaping=ACTIONS)
+OF_ACTIONS = [
+    ("SetConfig none", "a"),
+    ("Suspend", "a"),
+    ("SetConfig none", "a"),
+    ("SetConfig max_ready=1", "b"),
+    ("SetConfig none", "c"),
+]
+explained("a", "s", rules=[f'{action} Immediate for 1000 on ["{regex}"]' for action, regex in OF_ACTIONS], shaping=ACTIONS)
 
 # --- Patterns
 
@@ -417,8 +422,12 @@ refusals([
     ("provider.x.match = {MXSuffix='a',DomainSuffix='b'}\n", "provider.x match: BadMatch"),
     ("provider.x.match = [{MXSuffix='a'},5]\n", "provider.x match: BadMatch"),
     ("provider.x.match = [{DomainSuffix='a',x=1}]\n", "provider.x match: BadMatch"),
+    ("provider.x = {match={MXSuffix='a'},max_ready=0}\n", "provider.x max_ready: BadOption"),
+    ("provider.x = {match={MXSuffix='a'},sources={s={max_ready=0}}}\n", "provider.x.sources.s max_ready: BadOption"),
+    ("default.sources.s.max_connection_rate = 'x'\n", "default.sources.s max_connection_rate: BadThrottle"),
+    ("['D.example'.sources.s]\nconnection_limit = true\n", "D.example.sources.s connection_limit: BadType"),
 ])
-refusals([(f"['a{sign}b']\n", f"a{sign}b -: BadName") for sign in " =:@!>"])
+refusals([(f"['A{sign}b']\n", f"A{sign}b -: BadName") for sign in " =:@!>"])
 
 # Values that an option may not have, in a table and as what a rule sets it to.
 VALUES = [

@@ -28,6 +28,21 @@ for text, ignored in [
 ]:
     checked(*["sources " + line for line in ignored], sources=text)
 
+# The file that stands first in the guide for operators, and the pool whose turns it tells.
+GUIDE = """[source."bulk-1"]
+source_address = "192.0.2.11"
+ehlo_domain = "bulk-1.out.orchard.example"
+
+[source."bulk-2"]
+
+[pool."bulk"."bulk-1"]
+weight = 2
+
+[pool."bulk"."bulk-2"]
+"""
+checked("sources source.bulk-1 source_address", sources=GUIDE)
+checked(sources="source = { a = {}, b = {}, c = {} }\npool.p = { a = { weight = 2 }, b = { weight = 1 }, c = { weight = 0 } }\n")
+
 # The bounds of what may stand in a file.
 for text in [
     f"[source.{'a' * 255}]\n",
