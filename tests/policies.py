@@ -83,7 +83,17 @@ OF_TENANT = {"pool": "pool0", "max_age": "86400000", "retry_interval": "1020000"
 MYTENANT = ["--tenant", "mytenant"]
 explained("any.example")
 explained("one.example", "ip-1", site=SITE, options=OF_ONE, rules=BUSY, shaping=SHAPING, mx=MX)
-explained("Solo.Example", "ip-1", "solo.example", "solo.example=" + SITE, BUSY, options=OF_SOLO, shaping=SHAPING, mx=MX)
+explained(
+    "Solo.Example",
+    "ip-1",
+    queue="mytenant@solo.example",
+    site="solo.example=" + SITE,
+    rules=BUSY,
+    options=OF_SOLO,
+    words=MYTENANT,
+    shaping=SHAPING,
+    mx=MX,
+)
 explained("one.example", queue="mytenant@one.example", settings=OF_TENANT, words=MYTENANT, sources=SOURCES, queues=QUEUES)
 explained(
     "one.example",

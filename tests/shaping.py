@@ -377,6 +377,8 @@ refusals([
     (many(256, "m") + many(1, "a"), "m.automation.1 regex: BadPattern"),
     (many(256, "m") + many(1, "z"), "z.automation.1 regex: BadPattern"),
     (many(256, "m") + many(1, "m.sources.s"), "m.sources.s.automation.1 regex: BadPattern"),
+    (many(257, "m") + "z.max_ready = 0\n", "m.automation.1 regex: BadPattern"),
+    (many(257, "m") + "a.max_ready = 0\n", "a max_ready: BadOption"),
 ])
 
 # --- Refusals
