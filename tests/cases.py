@@ -12,7 +12,7 @@ import dataclasses
 class Case:
     """One run of the program.
 
-    words: the words of the command line behind the program's name.
+    words: the words of the command line after the program's name.
     files: the files of the folder that it runs in, by their names, as bytes.
     wanted: what it prints to standard output.
     status: its exit status.
@@ -76,7 +76,7 @@ def explained(domain, source="unspecified", queue=None, site=None, rules=(), set
     """Lists a case of `explain` for a domain and a source: the settings and options that differ from those of no file.
 
     The queue is the domain where it is not given, and so is the site, as it is without a table of exchangers. `words` are
-    more words of the command line, such as a tenant. `rules` are the lines behind `rule 1 `, `rule 2 ` and so on."""
+    more words of the command line, such as a tenant. `rules` are the lines after `rule 1 `, `rule 2 ` and so on."""
     given = ["explain", "--domain", domain, "--source", source, *words, *named(files)]
     found = {**SETTINGS, **(settings or {})}
     lines = ["queue " + (queue or domain)]

@@ -100,7 +100,7 @@ for number in range(1, 7):
 limit(3, "d", tables(*LAYERS), source="t")
 limit(4, "e", tables(*LAYERS))
 
-# The rules of all layers stand one behind another in the same order, the source's at the end.
+# The rules of all layers stand one after another in the same order, the source's at the end.
 RULES = "".join(
     f"[[{table}.automation]]\nregex = '{table}'\naction = 'Suspend'\nduration = {number}\n" for table, number, _ in reversed(LAYERS)
 )

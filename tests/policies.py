@@ -124,13 +124,13 @@ EXPLAIN = ["explain", "--domain", "one.example"]
 for number, name in enumerate(NAMES):
     refusal = f"error: policy {PLACES[name]}\n"
     before = {other: GOOD[other] for other in NAMES[:number]}
-    behind = {other: BAD[other] for other in NAMES[number + 1 :]}
-    refused(PLACES[name], **before, **{name: BAD[name]}, **behind)
-    if behind:  # they are not there and not read
+    later = {other: BAD[other] for other in NAMES[number + 1 :]}
+    refused(PLACES[name], **before, **{name: BAD[name]}, **later)
+    if later:  # they are not there and not read
         case(["check", *named(reversed(NAMES))], refusal, 3, **before, **{name: BAD[name]})
-    case(["check", *named(NAMES)], READ_FAULT, 5, **before, **behind)
+    case(["check", *named(NAMES)], READ_FAULT, 5, **before, **later)
     case(["check", *named([name])], READ_FAULT, 5)
-    case([*EXPLAIN, *named(NAMES)], refusal, 3, **before, **{name: BAD[name]}, **behind)
+    case([*EXPLAIN, *named(NAMES)], refusal, 3, **before, **{name: BAD[name]}, **later)
     case([*EXPLAIN, *named([name])], READ_FAULT, 5)
 case("check --sources .", READ_FAULT, 5)
 case("check --sources both --queues both", ["error: policy sources - -: NotToml"], 3, both="x")

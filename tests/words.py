@@ -84,7 +84,7 @@ usage("explain", "--tenant", "t", "--campaign", "c", "--domain", LONGEST + "d")
 explained(LONGEST + "dddd")
 usage("explain", "--domain", LONGEST + "ddddd")
 
-# `send`: a value of its own word does not begin with `-`; behind `=` it may, and may have a `=` in it.
+# `send`: a value of its own word does not begin with `-`; after `=` it may, and may have a `=` in it.
 for words in (["--mail", "m"], ["--mail=m"]):
     case(["send", *words], STOPPED, 0, **EMPTY_SEND)
 case(["send", "--mail=-x"], STOPPED, 0, **{"-x": ""})
