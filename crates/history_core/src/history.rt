@@ -29,6 +29,13 @@ impl History {
         }
     }
 
+    /// The history of these entries, the oldest first.
+    pub fn of(entries: Vec<Entry>) -> History
+        ensures { result ≡ entries.items }
+    {
+        History { entries }
+    }
+
     /// Appends an entry. After `Memory` the history is as it was.
     pub fn push(&mut self, entry: Entry) -> Result<(), Memory>
         ensures ok { OnOk result (self.new ≡ self.old ++ entry ∷ []) }

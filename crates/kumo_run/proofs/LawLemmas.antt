@@ -1,5 +1,5 @@
 -- What follows of how a command ends.
-use Rattle.std.proofs.Common.{◌≡◌, ℕ, ◌≤◌, ◌<◌, List, length, Option, Some, refl, sym, ap, subst, ◌∙◌, inl, inr, arith}
+use Rattle.std.proofs.Common.{◌≡◌, ℕ, ◌≤◌, List, length, Option, Some, refl, ap, subst, inl, inr, arith}
 use Rattle.kumo_outside.specs.declared.session.Session.{Session}
 use Rattle.queue_name.specs.declared.message.Message.{Message}
 use Rattle.history_core.specs.declared.entry.Entry.{Entry}
@@ -16,7 +16,7 @@ use Rattle.kumo_run.specs.Ending.{Ending, done, unwritten, unfinished, refused, 
 use Rattle.kumo_run.specs.Deeds.{Deed, MailSays}
 use Rattle.kumo_run.specs.Causes.{Inputs, no_command, unbuilt, policy, mail, inputs_of, Cause}
 use Rattle.kumo_run.specs.Ends.{Did, EndsCommand}
-use Rattle.kumo_run.specs.Good.{IsGood, IsGoodMail, IsCalm, EndsWell}
+use Rattle.kumo_run.specs.Good.{IsGood, IsCalm, EndsWell}
 
 -- what is said of a told text
 said_of : (told : Option (List ℕ)) (text : List ℕ) (P : MailRead → Type 0) → told ≡ Some text → MailSays told P → P (mail_read text)

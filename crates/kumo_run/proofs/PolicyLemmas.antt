@@ -1,5 +1,5 @@
 -- A fault of policy texts has its cause as a refusal too.
-use Rattle.std.proofs.Common.{◌≡◌, List, ℕ, Result, IfErr, refl, sym, subst, inl}
+use Rattle.std.proofs.Common.{◌≡◌, Result, IfErr, refl, sym, subst}
 use Rattle.std.proofs.lemmas.Result.{IfErr-weaker}
 use Rattle.kumo_outside.specs.Told.{TextsSeen}
 use Rattle.kumo_outside.specs.Search.{SearchSeen}
@@ -18,7 +18,7 @@ module _ (before after : TextsSeen) (searching searched : SearchSeen) (names : T
   by_fault load_fault.Limit h = λ b a. (refl, h)
   by_fault load_fault.ReadFault h = λ b a. (refl, (tt, h))
   by_fault load_fault.SearchFault h = λ b a. (refl, (tt, h))
-  by_fault load_fault.Memory h = λ b a. (inl refl, tt)
+  by_fault load_fault.Memory h = λ b a. (refl, tt)
 
   pub refuses_policy : (fault : LoadFault) (why : Refusal) → why ≡ refusal_of_load fault
       → HasCauseIn (Stops before.told names) (counts_of before after searching searched) fault
@@ -29,4 +29,4 @@ module _ (before after : TextsSeen) (searching searched : SearchSeen) (names : T
   pub refuses_memory : {X : Type 0} (r : Result X Refusal) → IfErr r (λ why. why ≡ refusal.Memory)
       → IfErr r (λ why. RefusesPolicy before after searching searched names why)
   refuses_memory r h =
-      IfErr-weaker r _ _ (λ why e. subst (RefusesPolicy before after searching searched names) (sym e) (λ b a. (inl refl, tt))) h
+      IfErr-weaker r _ _ (λ why e. subst (RefusesPolicy before after searching searched names) (sym e) (λ b a. (refl, tt))) h

@@ -1,5 +1,5 @@
 -- Why a mail text is not sent, from why its reading or the sending of its messages stopped.
-use Rattle.std.proofs.Common.{◌≡◌, ℕ, List, [], ◌∷◌, ◌++◌, length, Option, Some, None, IfSome, refl, sym, ap, subst, ◌∙◌, inl, inr}
+use Rattle.std.proofs.Common.{◌≡◌, ℕ, List, [], ◌∷◌, Option, Some, None, IfSome, refl, sym, ap, subst, ◌∙◌}
 use Rattle.queue_name.specs.declared.message.Message.{Message}
 use Rattle.kumo_outside.specs.declared.session.Session.{Session}
 use Rattle.kumo_outside.specs.declared.text_reader.TheConstants.{TEXT_LIMIT}
@@ -11,7 +11,7 @@ use Rattle.kumo_run.specs.declared.refusal.Refusal.TheVariants as refusal
 use Rattle.kumo_run.specs.MailRead.{MailRead, too_long, mail_gives, mail_read, IsMany}
 use Rattle.scripted_peer.specs.ScriptedPeer.{LinkerState}
 use Rattle.kumo_run.specs.Deeds.{MailSays, spoken, all_sessions}
-use Rattle.kumo_run.specs.Causes.{RefusesMail, IsOne}
+use Rattle.kumo_run.specs.Causes.{RefusesMail}
 use Rattle.kumo_run.specs.inside.SendCauses.{IsMisread, StopsShort}
 use Rattle.kumo_run.proofs.MailLemmas.{same_read}
 
@@ -31,7 +31,7 @@ module _ (before after : TextsSeen) (name : List ℕ) where
   unread read up (refusal.Mail line why) h = λ b a searching searched.
       (refl, says_as (before.told name) read (λ found. found ≡ mail_gives (refused line why)) up h)
   unread read up refusal.Limit h = λ b a searching searched. (refl, says_as (before.told name) read (λ found. found ≡ too_long) up h)
-  unread read up refusal.Memory h = λ b a searching searched. (inl refl, tt)
+  unread read up refusal.Memory h = λ b a searching searched. (refl, tt)
   unread read up _ h = absurd h
 
   module _ (mail : List Message) (given : MailSays (before.told name) (λ found. found ≡ mail_gives (messages mail))) (sessions : List Session) where
@@ -41,12 +41,7 @@ module _ (before after : TextsSeen) (name : List ℕ) where
         (λ found e. e ∙ ap (λ (ms : List Message). mail_gives (messages ms)) is) given
 
     pub stops_short : (why : Refusal) → StopsShort why mail sessions → RefusesMail before after name sessions why
-    stops_short refusal.Memory h =
-        elim h [
-          | inl none ↦ λ b a searching searched. (inl (ap spoken none), tt)
-          | inr one ↦ λ b a searching searched.
-              (inr (refl, says_more (before.told name) (λ found. found ≡ mail_gives (messages (one.0 ∷ []))) IsOne (λ found e. (one.0, e)) (as_one one.0 one.1)), tt)
-        ]
+    stops_short refusal.Memory none = λ b a searching searched. (ap spoken none, tt)
     stops_short refusal.NotYetMail (many, none) = λ b a searching searched.
         (ap spoken none, says_more (before.told name) (λ found. found ≡ mail_gives (messages mail)) IsMany (λ found e. record { mail = mail; read = e; many = many }) given)
     stops_short refusal.NotYetReply (m, s, is, sessions_are, short) = λ b a searching searched.

@@ -1,9 +1,9 @@
 -- What a fresh link tells of the transcript, from what the calls of the dialogue say.
-use Rattle.std.proofs.Common.{◌≡◌, ℕ, ◌+◌, ◌≤◌, ◌<◌, ◌⊎◌, List, [], ◌∷◌, ◌++◌, length, Bool, true, false, Option, Some, None, refl, ap, sym, subst, inl, inr, ◌∙◌, arith, append-nil, append_assoc, length-append}
+use Rattle.std.proofs.Common.{◌≡◌, ℕ, ◌⊎◌, List, [], ◌∷◌, ◌++◌, length, Bool, true, false, Option, Some, None, IfSome, refl, ap, sym, subst, inl, inr, ◌∙◌, arith, append-nil, length-append}
 use Rattle.std.proofs.lemmas.Bool.{false≢true}
 use Rattle.std.proofs.lemmas.Option.{same_Some}
 use Rattle.kumo_base.specs.Causes.{Rose}
-use Rattle.kumo_outside.specs.Told.{extended, ExtendsByFront, TakesFront, TakesProperFront}
+use Rattle.kumo_outside.specs.Told.{extended, TakesFront}
 use Rattle.kumo_outside.specs.Sessions.{LinkSeen, session_of}
 use Rattle.queue_name.specs.declared.message.Message.{Message}
 use Rattle.kumo_outside.specs.declared.session.Session.{Session}
@@ -11,12 +11,12 @@ use Rattle.smtp_reply.specs.declared.reply.Reply.{Reply}
 use Rattle.smtp_reply.specs.declared.reply.Outcome.{Outcome}
 use Rattle.smtp_reply.specs.declared.reply.Outcome.TheVariants.{Delivered}
 use Rattle.kumo_outside.proofs.ToldLemmas.{extended-told, TakesFront-whole, TakesFront-more, TakesProperFront-more}
-use Rattle.smtp_dialogue.specs.Transcript.{Spoken, Standing, alive, over, waiting, is_alive, ends, joined_at, followed_by, greeting, attempted, parting, attempts, before_parting, transcript, IsFront, IsTranscript}
+use Rattle.smtp_dialogue.specs.Transcript.{Spoken, Standing, alive, over, waiting, is_alive, joined_at, followed_by, greeting, attempted, parting, attempts, before_parting, transcript, IsFront}
 use Rattle.smtp_dialogue.specs.Speaks.{Side, side, IsWhole, IsCutShort, Speaks, with_more, IsStable}
 use Rattle.smtp_dialogue.proofs.Stability.{parts_stable, greeting_stable, attempts_stable}
 use Rattle.smtp_dialogue.proofs.Following.{followed}
 use Rattle.policy_core.specs.Limits.{localhost}
-use Rattle.kumo_run.specs.Delivery.{up_to_quit, IsDeliveredBy, IsNotDelivered}
+use Rattle.kumo_run.specs.Delivery.{IsDeliveredBy, IsNotDelivered}
 use Rattle.kumo_run.specs.inside.OneMessage.{IsFreshLink, Tells}
 
 -- ---- a part that left the link not alive is all that the parts behind it come to
@@ -285,3 +285,8 @@ module _ (m : Message) (k : LinkSeen) (fresh : IsFreshLink k) where
     pub tells_undelivered : ((reply : Reply) → decided ≡ Delivered reply → ⊥) → Tells m new.link (IsNotDelivered m)
     tells_undelivered other =
         tells_parted (IsNotDelivered m) (λ sent told reply d. other reply (first_outcome _ _ (sym (told_up_to_quit sent told).1 ∙ d.outcome)))
+
+-- where no link was opened, the sessions are as they were
+pub sessions_stay : (old new : Option (List Session)) → new ≡ old → IfSome old (λ before. new ≡ Some before)
+sessions_stay None new e = tt
+sessions_stay (Some before) new e = e

@@ -1,17 +1,16 @@
 -- Each entry of the run of one delivered message may follow those before it.
-use Rattle.std.proofs.Common.{eq-eqb, ◌≡◌, ℕ, ◌≤◌, ◌==◌, nat_eq, List, [], ◌∷◌, ◌++◌, true, refl, sym, subst, ap, arith, append_assoc, append-nil, bytes_eq}
+use Rattle.std.proofs.Common.{eq-eqb, ◌≡◌, ℕ, ◌==◌, List, [], ◌∷◌, true, refl, arith, bytes_eq}
 use Rattle.queue_name.specs.Message.{IsProperMessage}
 use Rattle.smtp_reply.specs.ReplyText.{IsReplyOf}
 use Rattle.queue_name.specs.declared.message.Message.{Message}
 use Rattle.smtp_reply.specs.declared.reply.Reply.{Reply}
 use Rattle.smtp_reply.specs.declared.reply.Outcome.TheVariants.{Delivered}
-use Rattle.history_core.specs.declared.entry.Entry.{Entry}
 use Rattle.history_core.specs.declared.entry.Event.TheVariants as event
 use Rattle.history_core.specs.declared.entry.Next.TheVariants.{Settled}
 use Rattle.history_core.specs.declared.entry.Cause.TheVariants.{Empty}
 use Rattle.policy_core.specs.Limits.{unspecified}
 use Rattle.history_core.specs.Legal.{MayFollow}
-use Rattle.kumo_run.specs.inside.OneDelivery.{entry, path_to, accepted, promoted, opened, begun, ended, closed, stopped}
+use Rattle.kumo_run.specs.inside.OneDelivery.{entry, path_to, accepted, promoted, opened, begun, ended, closed}
 
 same_number : (n : ℕ) → (n == n) ≡ true
 same_number n = eq-eqb n n refl

@@ -1,5 +1,5 @@
 -- Why a call is refused: each cause once, for all commands. And what a refused call had done until then.
-use Rattle.std.specs.Prelude.{◌≡◌, ℕ, ◌⊎◌, List, [], ◌∷◌, Option, Some, None, if◌then◌else◌, ⊤}
+use Rattle.std.specs.Prelude.{◌≡◌, ℕ, List, [], ◌∷◌, Option, Some, None, if◌then◌else◌, ⊤}
 use Rattle.kumo_base.specs.Causes.{Rose}
 use Rattle.queue_name.specs.declared.message.Message.{Message}
 use Rattle.kumo_outside.specs.declared.session.Session.{Session}
@@ -12,7 +12,7 @@ use Rattle.policy_texts.specs.Texts.{Stop, too_long, refused as refused_text}
 use Rattle.policy_texts.specs.Policies.{Stops}
 use Rattle.kumo_run.specs.declared.refusal.Refusal.{Refusal}
 use Rattle.kumo_run.specs.declared.refusal.Refusal.TheVariants as refusal
-use Rattle.kumo_run.specs.MailRead.{MailRead, too_long as too_long_mail, mail_gives, mail_read, IsMany}
+use Rattle.kumo_run.specs.MailRead.{MailRead, too_long as too_long_mail, mail_gives, IsMany}
 use Rattle.kumo_run.specs.Delivery.{IsSessionOf, IsNotDelivered}
 use Rattle.kumo_run.specs.Outside.{Outside, outside}
 use Rattle.kumo_run.specs.Deeds.{Deed, nothing_done, spoken, MailSays, asks_for_mail_alone}
@@ -91,19 +91,13 @@ Cause i b a d refusal.NotYetWords = i ≡ unbuilt
 Cause i b a d refusal.NotYetMail = MailGives i b IsMany
 Cause i b a d refusal.NotYetReply = HasOneSession i b d.sessions FallsShort
 
--- a mail of one message
-abbrev pub IsOne : MailRead → Type 0
-IsOne found = (m : Message) × (found ≡ mail_gives (messages (m ∷ [])))
-
--- what was done before a refusal: nothing. A receiver was spoken to where it did not take the message, or where memory ran out
--- behind the opening of the link.
-abbrev pub BeganTo : Inputs → Outside → Deed → Refusal → Type 0
-BeganTo i b d refusal.NotYetReply = d ≡ spoken d.sessions
-BeganTo i b d refusal.Memory = (d ≡ nothing_done) ⊎ ((d ≡ spoken d.sessions) × MailGives i b IsOne)
-BeganTo i b d _ = d ≡ nothing_done
+-- what was done before a refusal: nothing; a receiver was spoken to where it did not take the message
+abbrev pub BeganTo : Deed → Refusal → Type 0
+BeganTo d refusal.NotYetReply = d ≡ spoken d.sessions
+BeganTo d _ = d ≡ nothing_done
 
 abbrev pub Refuses : Inputs → Outside → Outside → Deed → Refusal → Type 0
-Refuses i b a d why = BeganTo i b d why × Cause i b a d why
+Refuses i b a d why = BeganTo d why × Cause i b a d why
 
 -- the sending of a mail text is refused, whatever the other devices show
 abbrev pub RefusesMail : TextsSeen → TextsSeen → List ℕ → List Session → Refusal → Type 0

@@ -1,5 +1,5 @@
 -- What each command does: the text that it prints, the history that it hands out and the sessions with receivers.
-use Rattle.std.specs.Prelude.{◌≡◌, ℕ, List, [], ◌∷◌, Bool, ◌&&◌, Option, Some, None, is_none, IfSome, IsTrue, flat_map}
+use Rattle.std.specs.Prelude.{◌≡◌, ℕ, List, [], Bool, ◌&&◌, Option, Some, None, is_none, IfSome, IsTrue, flat_map}
 use Rattle.queue_name.specs.declared.message.Message.{Message}
 use Rattle.kumo_outside.specs.declared.session.Session.{Session}
 use Rattle.history_core.specs.declared.entry.Entry.{Entry}

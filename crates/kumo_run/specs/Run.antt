@@ -1,5 +1,5 @@
 -- A run that went to its end.
-use Rattle.std.specs.Prelude.{◌≡◌, ℕ, List, [], ◌∷◌, ◌++◌, Bool, true, All, length, filter_map, fold, false}
+use Rattle.std.specs.Prelude.{◌≡◌, List, [], ◌∷◌, Bool, true, All, length, filter_map, fold, false}
 use Rattle.queue_name.specs.declared.message.Message.{Message}
 use Rattle.kumo_outside.specs.declared.session.Session.{Session}
 use Rattle.smtp_reply.specs.declared.reply.Reply.{Reply}

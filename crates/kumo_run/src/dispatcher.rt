@@ -2,7 +2,8 @@
 //!
 //! Before each step on the link it takes a turn at the registry, which says what may be done. In the final layout it is
 //! a crate of its own.
-ghost use Rattle.std.specs.Prelude.{◌≡◌, [], false, IfOk, IfSome};
+ghost use Rattle.std.specs.Prelude.{◌≡◌, ◌≤◌, [], false, IfOk, IfSome};
+ghost use Rattle.kumo_run.specs.declared.dispatcher.TheConstants.{ENTRIES};
 ghost use Rattle.kumo_base.specs.Causes.{Rose};
 ghost use Rattle.queue_name.specs.Message.{IsProperMessage};
 ghost use Rattle.policy_core.specs.Limits.{unspecified};
@@ -24,6 +25,10 @@ use std::alloc::Global;
 
 /// The number of the first connection, and so far the only one.
 const CONNECTION: u64 = 1;
+
+/// The entries of a run of one message: it is accepted, promoted, its connection opened, its attempt begun and ended, the
+/// connection closed, and the work stopped.
+pub const ENTRIES: usize = 7;
 
 /// Why a message was not delivered.
 #[derive(Clone, Copy, Debug, PartialEq, Eq)]
@@ -47,7 +52,8 @@ impl From<Memory> for DeliveryFault {
 }
 
 /// Delivers one message over one connection, and closes it. The history is that of the message up to the closing.
-/// After `NotDelivered` the linker tells the session that says so.
+/// After `NotDelivered` the linker tells the session that says so. Memory is taken before the link is opened: after `Memory` it
+/// tells no session more. The registry that is given has room for one entry more.
 pub fn deliver<K: Linker>(
     alloc: Global,
     message: &Message,
@@ -57,12 +63,13 @@ pub fn deliver<K: Linker>(
     ensures told { IfSome (K.seen linker.old).sessions
         (λ before. Delivers message.now result (K.seen linker.new).sessions before) }
     ensures fault { result ≡ Err DeliveryFault.NotOpened → Rose (K.seen linker.old).faults (K.seen linker.new).faults }
+    ensures room { IfOk result (λ registry. ENTRIES ≤ registry.capacity) }
 {
     let mut registry = ready(alloc, message)?;
     let path = path_text(alloc, message.name.domain.as_str())?;
     let mut scratch = Scratch::new(alloc)?;
     let room = Room::new(alloc)?;
-    registry.open(CONNECTION, path)?;
+    registry.open(CONNECTION, path);
     connect(&mut registry, linker, message, &mut scratch, room)?;
     Ok(registry)
 }
@@ -75,10 +82,12 @@ fn connect<K: Linker>(
     scratch: &mut Scratch,
     room: Room,
 ) -> Result<(), DeliveryFault>
-    requires history { registry.old ≡ opened message.now }
+    requires history { registry.old.history ≡ opened message.now }
+    requires entries { ENTRIES ≤ registry.old.capacity }
     requires room { room ≡ [] }
     ensures told { IfSome (K.seen linker.old).sessions
-        (λ before. Connects message.now result registry.new (K.seen linker.new).sessions before) }
+        (λ before. Connects message.now result registry.new.history (K.seen linker.new).sessions before) }
+    ensures capacity { registry.new.capacity ≡ registry.old.capacity }
     ensures fault { result ≡ Err DeliveryFault.NotOpened → Rose (K.seen linker.old).faults (K.seen linker.new).faults }
 {
     let mut link = match linker.open(message.name.domain.as_str(), UNSPECIFIED) {
@@ -90,15 +99,16 @@ fn connect<K: Linker>(
     worked
 }
 
-/// A registry that took the message over and made it ready.
+/// A registry that took the message over and made it ready, with room for the entries to come.
 fn ready(alloc: Global, message: &Message) -> Result<Registry, Memory>
     requires { IsProperMessage message.now }
-    ensures { IfOk result (λ registry. registry ≡ promoted message.now) }
+    ensures history { IfOk result (λ registry. registry.history ≡ promoted message.now) }
+    ensures room { IfOk result (λ registry. ENTRIES ≤ registry.capacity) }
 {
     let source = Text::of(alloc, UNSPECIFIED)?;
-    let mut registry = Registry::new(alloc);
-    registry.accept(message.copy(alloc)?)?;
-    registry.promote(message.id, source)?;
+    let mut registry = Registry::with_room(alloc, ENTRIES)?;
+    registry.accept(message.copy(alloc)?);
+    registry.promote(message.id, source);
     Ok(registry)
 }
 
@@ -120,17 +130,19 @@ fn converse<L: Link>(
     scratch: &mut Scratch,
     room: Room,
 ) -> Result<(), DeliveryFault>
-    requires history { registry.old ≡ opened message.now }
+    requires history { registry.old.history ≡ opened message.now }
+    requires entries { ENTRIES ≤ registry.old.capacity }
     requires room { room ≡ [] }
     ensures opening { (L.seen link.new).opening ≡ (L.seen link.old).opening }
-    ensures told { IsFreshLink (L.seen link.old) → Converses message.now (L.seen link.new) result registry.new }
+    ensures told { IsFreshLink (L.seen link.old) → Converses message.now (L.seen link.new) result registry.new.history }
+    ensures capacity { registry.new.capacity ≡ registry.old.capacity }
     ensures fault { result ≡ Err DeliveryFault.NotOpened → ⊥ }
 {
     match greet(link, DEFAULT_EHLO, scratch) {
         Greeted::Refused => return Err(DeliveryFault::NotDelivered),
         Greeted::Ready => (),
     }
-    registry.begin(CONNECTION, message.id)?;
+    registry.begin(CONNECTION, message.id);
     let tried = attempt(
         link,
         message.sender.as_str(),
@@ -153,17 +165,19 @@ fn part<L: Link>(
     scratch: &mut Scratch,
     outcome: Outcome,
 ) -> Result<(), DeliveryFault>
-    requires history { registry.old ≡ begun message.now }
+    requires history { registry.old.history ≡ begun message.now }
+    requires entries { ENTRIES ≤ registry.old.capacity }
     requires outcome { IsProperOutcome outcome }
     ensures opening { (L.seen link.new).opening ≡ (L.seen link.old).opening }
-    ensures spoken { Parts message.now outcome result registry.new
+    ensures capacity { registry.new.capacity ≡ registry.old.capacity }
+    ensures spoken { Parts message.now outcome result registry.new.history
         (Speaks parting (side (L.seen link.old) scratch.old) (side (L.seen link.new) scratch.new) [] [] false) }
 {
     match outcome {
         Outcome::Delivered(reply) => {
-            registry.end_delivered(CONNECTION, message.id, reply)?;
+            registry.end_delivered(CONNECTION, message.id, reply);
             farewell(link, scratch);
-            registry.close_empty(CONNECTION)?;
+            registry.close_empty(CONNECTION);
             Ok(())
         }
         Outcome::Transient(_) | Outcome::Permanent(_) | Outcome::Lost(_) => {

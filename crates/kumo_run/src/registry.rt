@@ -1,12 +1,13 @@
-//! The registry: the one history, kept legal. Each call is one turn, and appends entries that may follow.
+//! The registry: the one history, kept legal. Each call is one turn, and appends an entry that may follow.
 //!
 //! This is where an attempt is allowed: `begin` may only be called where the definition of what may follow says so of
-//! the history, and no other code appends an entry. In the final layout it is a crate of its own.
-ghost use Rattle.std.specs.Prelude.{◌≡◌, List, [], ◌∷◌, ◌++◌, OnOk, OnErr};
-ghost use Rattle.history_core.specs.declared.entry.Entry.{Entry};
+//! the history, and no other code appends an entry. All memory is taken by `with_room`, before the first turn, so that no turn
+//! fails and no receiver is spoken to in a run that is then given up. In the final layout it is a crate of its own.
+ghost use Rattle.std.specs.Prelude.{◌≡◌, ◌≤◌, [], ◌∷◌, ◌++◌, IfOk, vec_capacity};
 ghost use Rattle.history_core.specs.declared.entry.Event.{Event};
 ghost use Rattle.history_core.specs.Legal.{IsLegal, MayFollow};
 ghost use Rattle.kumo_run.specs.inside.OneDelivery.{entry};
+ghost use Rattle.kumo_run.specs.inside.RegistryState.{RegistryState, HasRoom};
 
 use history_core::{Cause, Entry, Event, History, Next};
 use kumo_base::{Memory, Text};
@@ -21,121 +22,128 @@ const OWNER: u32 = 0;
 /// So far every moment.
 const MOMENT: u64 = 0;
 
-/// The history and nothing else; it is legal.
+/// The entries of the history, the oldest first; they are legal.
 #[derive(Drop)]
 pub struct Registry {
-    history: History,
+    entries: Vec<Entry>,
 }
 
 impl Model for Registry {
-    ghost Value = { List Entry };
+    ghost Value = { RegistryState };
 
-    ghost view = { λ r. r.history };
+    ghost view = { λ r. record { history = r.entries.items; capacity = vec_capacity r.entries } };
 
-    ghost invariant = { λ r. IsLegal r.history };
+    ghost invariant = { λ r. IsLegal r.entries.items };
 }
 
 impl Registry {
-    /// A registry before its first entry.
-    pub fn new(alloc: Global) -> Registry
-        ensures { result ≡ [] }
+    /// A registry before its first entry, with room for so many.
+    pub fn with_room(alloc: Global, entries: usize) -> Result<Registry, Memory>
+        ensures empty { IfOk result (λ registry. registry.history ≡ []) }
+        ensures room { IfOk result (λ registry. entries ≤ registry.capacity) }
     {
-        Registry {
-            history: History::new(alloc),
-        }
+        let entries = Vec::with_capacity(alloc, entries)?;
+        Ok(Registry { entries })
     }
 
     /// Takes a message over.
-    pub fn accept(&mut self, message: Message) -> Result<(), Memory>
-        requires { MayFollow self.old (entry (Event.Accepted message)) }
-        ensures ok { OnOk result (self.new ≡ self.old ++ entry (Event.Accepted message) ∷ []) }
-        ensures err { OnErr result (self.new ≡ self.old) }
+    pub fn accept(&mut self, message: Message)
+        requires follows { MayFollow self.old.history (entry (Event.Accepted message)) }
+        requires room { HasRoom self.old }
+        ensures history { self.new.history ≡ self.old.history ++ entry (Event.Accepted message) ∷ [] }
+        ensures capacity { self.new.capacity ≡ self.old.capacity }
     {
-        self.append(Event::Accepted(message))
+        self.append(Event::Accepted(message));
     }
 
     /// Makes a message ready on the path from this source.
-    pub fn promote(&mut self, id: u128, source: Text) -> Result<(), Memory>
-        requires { MayFollow self.old (entry (Event.Promoted id source)) }
-        ensures ok { OnOk result (self.new ≡ self.old ++ entry (Event.Promoted id source) ∷ []) }
-        ensures err { OnErr result (self.new ≡ self.old) }
+    pub fn promote(&mut self, id: u128, source: Text)
+        requires follows { MayFollow self.old.history (entry (Event.Promoted id source)) }
+        requires room { HasRoom self.old }
+        ensures history { self.new.history ≡ self.old.history ++ entry (Event.Promoted id source) ∷ [] }
+        ensures capacity { self.new.capacity ≡ self.old.capacity }
     {
-        self.append(Event::Promoted { id, source })
+        self.append(Event::Promoted { id, source });
     }
 
     /// Opens a connection of a path.
-    pub fn open(&mut self, conn: u64, path: Text) -> Result<(), Memory>
-        requires { MayFollow self.old (entry (Event.Opened conn path 0)) }
-        ensures ok { OnOk result (self.new ≡ self.old ++ entry (Event.Opened conn path 0) ∷ []) }
-        ensures err { OnErr result (self.new ≡ self.old) }
+    pub fn open(&mut self, conn: u64, path: Text)
+        requires follows { MayFollow self.old.history (entry (Event.Opened conn path 0)) }
+        requires room { HasRoom self.old }
+        ensures history { self.new.history ≡ self.old.history ++ entry (Event.Opened conn path 0) ∷ [] }
+        ensures capacity { self.new.capacity ≡ self.old.capacity }
     {
-        self.append(Event::Opened { conn, path, key: 0 })
+        self.append(Event::Opened { conn, path, key: 0 });
     }
 
     /// Begins an attempt on a connection.
-    pub fn begin(&mut self, conn: u64, id: u128) -> Result<(), Memory>
-        requires { MayFollow self.old (entry (Event.Begun conn id 0)) }
-        ensures ok { OnOk result (self.new ≡ self.old ++ entry (Event.Begun conn id 0) ∷ []) }
-        ensures err { OnErr result (self.new ≡ self.old) }
+    pub fn begin(&mut self, conn: u64, id: u128)
+        requires follows { MayFollow self.old.history (entry (Event.Begun conn id 0)) }
+        requires room { HasRoom self.old }
+        ensures history { self.new.history ≡ self.old.history ++ entry (Event.Begun conn id 0) ∷ [] }
+        ensures capacity { self.new.capacity ≡ self.old.capacity }
     {
-        self.append(Event::Begun { conn, id, key: 0 })
+        self.append(Event::Begun { conn, id, key: 0 });
     }
 
     /// Ends an attempt with its delivery.
-    pub fn end_delivered(&mut self, conn: u64, id: u128, reply: Reply) -> Result<(), Memory>
-        requires { MayFollow self.old (entry (Event.Ended conn id (Outcome.Delivered reply) Next.Settled)) }
-        ensures ok { OnOk result (self.new
-            ≡ self.old ++ entry (Event.Ended conn id (Outcome.Delivered reply) Next.Settled) ∷ []) }
-        ensures err { OnErr result (self.new ≡ self.old) }
+    pub fn end_delivered(&mut self, conn: u64, id: u128, reply: Reply)
+        requires follows { MayFollow self.old.history (entry (Event.Ended conn id (Outcome.Delivered reply) Next.Settled)) }
+        requires room { HasRoom self.old }
+        ensures history { self.new.history ≡ self.old.history ++ entry (Event.Ended conn id (Outcome.Delivered reply) Next.Settled) ∷ [] }
+        ensures capacity { self.new.capacity ≡ self.old.capacity }
     {
         self.append(Event::Ended {
             conn,
             id,
             outcome: Outcome::Delivered(reply),
             next: Next::Settled,
-        })
+        });
     }
 
     /// Closes a connection for which no ready message is left.
-    pub fn close_empty(&mut self, conn: u64) -> Result<(), Memory>
-        requires { MayFollow self.old (entry (Event.Closed conn Cause.Empty)) }
-        ensures ok { OnOk result (self.new ≡ self.old ++ entry (Event.Closed conn Cause.Empty) ∷ []) }
-        ensures err { OnErr result (self.new ≡ self.old) }
+    pub fn close_empty(&mut self, conn: u64)
+        requires follows { MayFollow self.old.history (entry (Event.Closed conn Cause.Empty)) }
+        requires room { HasRoom self.old }
+        ensures history { self.new.history ≡ self.old.history ++ entry (Event.Closed conn Cause.Empty) ∷ [] }
+        ensures capacity { self.new.capacity ≡ self.old.capacity }
     {
         self.append(Event::Closed {
             conn,
             cause: Cause::Empty,
-        })
+        });
     }
 
     /// Ends the work.
-    pub fn stop(&mut self) -> Result<(), Memory>
-        requires { MayFollow self.old (entry Event.Stopped) }
-        ensures ok { OnOk result (self.new ≡ self.old ++ entry Event.Stopped ∷ []) }
-        ensures err { OnErr result (self.new ≡ self.old) }
+    pub fn stop(&mut self)
+        requires follows { MayFollow self.old.history (entry Event.Stopped) }
+        requires room { HasRoom self.old }
+        ensures history { self.new.history ≡ self.old.history ++ entry Event.Stopped ∷ [] }
+        ensures capacity { self.new.capacity ≡ self.old.capacity }
     {
-        self.append(Event::Stopped)
+        self.append(Event::Stopped);
     }
 
     /// Hands the history out. It is legal.
     pub fn into_history(self) -> History
-        ensures same { result ≡ self }
+        ensures same { result ≡ self.history }
         ensures legal { IsLegal result }
     {
-        let Registry { history } = self;
-        history
+        let Registry { entries } = self;
+        History::of(entries)
     }
 
-    /// Appends an entry that may follow. After `Memory` the history is as it was.
-    fn append(&mut self, what: Event) -> Result<(), Memory>
-        requires { MayFollow self.old (entry what) }
-        ensures ok { OnOk result (self.new ≡ self.old ++ entry what ∷ []) }
-        ensures err { OnErr result (self.new ≡ self.old) }
+    /// Appends an entry that may follow.
+    fn append(&mut self, what: Event)
+        requires follows { MayFollow self.old.history (entry what) }
+        requires room { HasRoom self.old }
+        ensures history { self.new.history ≡ self.old.history ++ entry what ∷ [] }
+        ensures capacity { self.new.capacity ≡ self.old.capacity }
     {
-        self.history.push(Entry {
+        self.entries.push_reserved(Entry {
             at: MOMENT,
             who: OWNER,
             what,
-        })
+        });
     }
 }

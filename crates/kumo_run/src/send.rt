@@ -107,9 +107,11 @@ fn send_nothing(alloc: Global) -> Result<History, Refusal>
     ensures ok { IfOk result (λ h. IsRun [] h []) }
     ensures err { IfErr result (λ why. why ≡ Refusal.Memory) }
 {
-    let mut registry = Registry::new(alloc);
-    match registry.stop() {
-        Ok(()) => Ok(registry.into_history()),
+    match Registry::with_room(alloc, 1) {
+        Ok(mut registry) => {
+            registry.stop();
+            Ok(registry.into_history())
+        }
         Err(Memory) => Err(Refusal::Memory),
     }
 }
@@ -126,16 +128,17 @@ fn send_one(
     ensures ok { IfOk result (λ h. IsRun (message.now ∷ []) h (all_sessions peers.new.items)) }
     ensures err { IfErr result (λ why. StopsShort why (message.now ∷ []) (all_sessions peers.new.items)) }
 {
-    let mut linker = ScriptedLinker::new(alloc, says);
-    let delivered = deliver(alloc, message, &mut linker);
-    if peers.push(linker).is_err() {
+    if peers.reserve(1).is_err() {
         return Err(Refusal::Memory);
     }
+    let mut linker = ScriptedLinker::new(alloc, says);
+    let delivered = deliver(alloc, message, &mut linker);
+    peers.push_reserved(linker);
     match delivered {
-        Ok(mut registry) => match registry.stop() {
-            Ok(()) => Ok(registry.into_history()),
-            Err(Memory) => Err(Refusal::Memory),
-        },
+        Ok(mut registry) => {
+            registry.stop();
+            Ok(registry.into_history())
+        }
         Err(DeliveryFault::NotDelivered) => Err(Refusal::NotYetReply),
         // A scripted linker fails to open a link for want of memory alone.
         Err(DeliveryFault::NotOpened) => Err(Refusal::Memory),

@@ -1,5 +1,5 @@
 -- The history of one message that is delivered, entry by entry. Every moment is 0, and the one pass has the number 0.
-use Rattle.std.specs.Prelude.{ℕ, List, [], ◌∷◌, ◌++◌, codes}
+use Rattle.std.specs.Prelude.{ℕ, List, [], ◌∷◌, ◌++◌}
 use Rattle.queue_name.specs.declared.message.Message.{Message}
 use Rattle.smtp_reply.specs.declared.reply.Reply.{Reply}
 use Rattle.smtp_reply.specs.declared.reply.Outcome.TheVariants.{Delivered}

@@ -1,5 +1,4 @@
 -- The refusal that a fault of policy texts comes to, and its cause.
-use Rattle.std.specs.Prelude.{List, ℕ}
 use Rattle.kumo_outside.specs.Told.{TextsSeen, SinkSeen}
 use Rattle.kumo_outside.specs.Search.{SearchSeen}
 use Rattle.command_words.specs.Commands.{TextNames}

@@ -1,5 +1,5 @@
 -- Why a mail text is not sent, step by step: it is not read, or its messages are not sent.
-use Rattle.std.specs.Prelude.{◌≡◌, ◌⊎◌, ℕ, List, [], ◌∷◌, ⊤, ◌<◌, length}
+use Rattle.std.specs.Prelude.{◌≡◌, List, [], ◌∷◌, ⊤, ◌<◌, length}
 use Rattle.queue_name.specs.declared.message.Message.{Message}
 use Rattle.kumo_outside.specs.declared.session.Session.{Session}
 use Rattle.mail_input.specs.Inputs.{refused}
@@ -24,7 +24,7 @@ IsMisread _ found = ⊥
 
 -- where the messages were read: memory ran out, or there is more than one, or the one was not delivered in the one session
 abbrev pub StopsShort : Refusal → List Message → List Session → Type 0
-StopsShort refusal.Memory mail sessions = (sessions ≡ []) ⊎ ((m : Message) × (mail ≡ m ∷ []))
+StopsShort refusal.Memory mail sessions = sessions ≡ []
 StopsShort refusal.NotYetMail mail sessions = (1 < length mail) × (sessions ≡ [])
 StopsShort refusal.NotYetReply mail sessions =
     (m : Message) × (s : Session) × (mail ≡ m ∷ []) × (sessions ≡ s ∷ []) × FallsShort m s

@@ -7,6 +7,7 @@ use Rattle.kumo_run.specs.declared.dispatcher.DeliveryFault.TheVariants.{NotOpen
 use Rattle.history_core.specs.declared.entry.Entry.{Entry}
 use Rattle.policy_core.specs.Limits.{unspecified}
 use Rattle.kumo_run.specs.inside.OneMessage.{IsFreshLink, Converses, Connects, Tells, TellsOneMore}
+use Rattle.kumo_run.proofs.SessionLemmas.{sessions_stay}
 use Rattle.kumo_run.proofs.dispatcher.connect.Goals as goal
 
 -- the last item of a list is set
@@ -41,7 +42,7 @@ module _ (m : Message) (host source : List ℕ) (host_is : host ≡ m.name.domai
   connects_at before (Ok x) h opens gives t = one_more before _ opens gives t
   connects_at before (Err NotOpened) h opens gives t = absurd t
   connects_at before (Err NotDelivered) h opens gives t = one_more before _ opens gives t
-  connects_at before (Err Memory) h opens gives t = tt
+  connects_at before (Err Memory) h opens gives t = absurd t
 
   connects : {T : Type 0} (old : Option (List Session)) (r : Result T DeliveryFault) (h : List Entry) → Opens old mid host source k1
       → GivesBack mid new k2 → (IsFreshLink k1 → Converses m k2 r h) → IfSome old (λ before. Connects m r h new before)
@@ -49,11 +50,6 @@ module _ (m : Message) (host source : List ℕ) (host_is : host ≡ m.name.domai
   connects (Some before) r h opens gives told =
       let is_fresh : IsFreshLink k1 = record { sent_is = opens.told.2; got_is = opens.told.3; faults_are = opens.told.4 } in
       connects_at before r h opens gives (told is_fresh)
-
--- a link that was not opened leaves the sessions as they were
-sessions_stay : (old new : Option (List Session)) → new ≡ old → IfSome old (λ before. new ≡ Some before)
-sessions_stay None new e = tt
-sessions_stay (Some before) new e = e
 
 pub returns-in-Err-clause-told : goal.returns-in-Err-clause-told
 returns-in-Err-clause-told g c = sessions_stay _ _ c.in-Err.ensures.failed
@@ -63,4 +59,4 @@ returns-clause-told g c =
     connects c.args.message.now _ _ (c.as_str.ensures ∙ ap (λ (x : Message). x.name.domain) c.message.view_is) refl
     (g.K.Link.Link.seen c.in-Ok.link) (g.K.Link.Link.seen c.converse-worked.new.link) c.converse-worked.ensures.opening
     (g.K.Linker.seen c.open.new.self).sessions (g.K.Linker.seen c.done.new.self).sessions
-    (g.K.Linker.seen c.args.linker.now).sessions c.converse-worked.result c.converse-worked.new.registry c.in-Ok.ensures.opened c.done.ensures.session c.converse-worked.ensures.told
+    (g.K.Linker.seen c.args.linker.now).sessions c.converse-worked.result c.converse-worked.new.registry.history c.in-Ok.ensures.opened c.done.ensures.session c.converse-worked.ensures.told

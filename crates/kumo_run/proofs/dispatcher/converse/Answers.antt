@@ -34,7 +34,7 @@ module _ (m : Message) (k : LinkSeen) (fresh : IsFreshLink k) (s1 s2 s3 : Side) 
       }
   converses (Err NotOpened) h parts = absurd parts
   converses (Err NotDelivered) h (other, parts) = tells_undelivered m k fresh s2 s3 at_fault outcome both parts other
-  converses (Err Memory) h parts = tt
+  converses (Err Memory) h parts = absurd parts
 
 -- the texts handed in are the message's, and the answer says whether the link is alive
 tried_as : (m : Message) (s1 s2 : Side) (f os : List Outcome) (a b c : List ℕ) (t v : Bool) → a ≡ m.sender → b ≡ m.recipient → c ≡ m.body → t ≡ v
@@ -79,4 +79,4 @@ returns-clause-told g c = λ fresh.
     converses c.args.message.now (g.L.Link.seen link) fresh
     s1 s2 s3 (Lost LinkFault ∷ []) c.attempt-tried.result.outcome c.in-Ready.ensures.spoken
     (tried_as c.args.message.now s1 s2 _ _ _ _ _ _ _ c.as_str.ensures c.as_str-2.ensures c.as_str-3.ensures (not_false _ c.if-not-tried.false) c.attempt-tried.ensures.spoken)
-    c.part.result c.part.new.registry c.part.ensures.spoken
+    c.part.result c.part.new.registry.history c.part.ensures.spoken

@@ -1,5 +1,5 @@
 use Rattle.command_words.specs.Told.{seen_names}
-use Rattle.kumo_run.proofs.PolicyLemmas.{refuses_policy, refuses_memory}
+use Rattle.kumo_run.proofs.PolicyLemmas.{refuses_policy}
 use Rattle.kumo_run.proofs.policy_answers.explain_text.Goals as goal
 
 pub returns-in-Err-clause-err : goal.returns-in-Err-clause-err

@@ -1,4 +1,4 @@
-use Rattle.std.proofs.Common.{◌≡◌, ◌∙◌, ap, subst, ℕ, List, Option, ◌++◌, codes, decimal, refl}
+use Rattle.std.proofs.Common.{◌≡◌, ◌∙◌, ap, subst, ℕ, List, Option, ◌++◌, codes, decimal}
 use Rattle.kumo_outside.specs.Told.{extended, TakesFront}
 use Rattle.mail_input.specs.declared.MailWhy.{MailWhy}
 use Rattle.kumo_run.specs.declared.refusal.Refusal.TheVariants as refusal

@@ -4,7 +4,7 @@ use Rattle.policy_core.specs.Words.{name_of_file, name_of_why}
 use Rattle.policy_core.specs.declared.fault.PolicyFile.{PolicyFile}
 use Rattle.policy_core.specs.declared.fault.Why.{Why}
 use Rattle.kumo_outside.proofs.ToldLemmas.{extended-next, TakesFront-more, TakesFront-after}
-use Rattle.kumo_run.specs.RefusalLine.{policy_start, policy_place, policy_end}
+use Rattle.kumo_run.specs.RefusalLine.{policy_start, policy_end}
 use Rattle.kumo_run.proofs.ResultLemmas.{OnErr-always}
 use Rattle.kumo_run.proofs.refusal.put_policy_line.Goals as goal
 

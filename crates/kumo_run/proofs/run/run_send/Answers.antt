@@ -1,9 +1,9 @@
-use Rattle.std.proofs.Common.{◌≡◌, Some, true, refl}
+use Rattle.std.proofs.Common.{Some, refl}
 use Rattle.command_words.specs.Commands.{Sending, send}
 use Rattle.command_words.specs.Told.{seen_sending}
 use Rattle.kumo_run.specs.declared.refusal.Refusal.TheVariants as refusal
 use Rattle.kumo_run.specs.Causes.{mail}
-use Rattle.kumo_run.specs.Deeds.{all_sessions, asks_for_mail_alone}
+use Rattle.kumo_run.specs.Deeds.{all_sessions}
 use Rattle.kumo_run.proofs.EndLemmas.{ends_logged, ends_refused_by, ends_unused, is_alone, sends_mail, is_unbuilt}
 use Rattle.kumo_run.proofs.run.run_send.Goals as goal
 
