@@ -1,4 +1,5 @@
-//! Laws of layers, of the names of options, of sites and of rotations. Each function does nothing: its contract is the law, and the check proves it.
+//! Laws of layers, of the names of options, of sites and of rotations. Each function does nothing: its contract is the law,
+//! and the check proves it.
 ghost use Rattle.std.specs.Prelude.{◌≡◌, ◌<◌, ◌==◌, ◌∷◌, ◌++◌, [], ℕ, List, length, map, bytes_eq, slice_index, count_by, IsTrue, Some, None};
 ghost use Rattle.std.specs.List.{list_any};
 ghost use Rattle.policy_core.specs.Layers.{settings_in, laid_over};
