@@ -68,8 +68,8 @@ pub struct Rule {
 
 impl Setting {
     /// The option that is set.
-    pub fn option(self) -> OptionName
-        ensures { result ≡ option_of self }
+    pub fn option(&self) -> OptionName
+        ensures { result ≡ option_of self.now }
     {
         match self {
             Setting::ConnectionLimit(_) => OptionName::ConnectionLimit,
