@@ -150,6 +150,7 @@ max_connection_rate none
 max_deliveries_per_connection 20
 max_ready 1024
 consecutive_connection_failures_before_delay 100
+idle_timeout none
 rule 1 Suspend Threshold 3/3600000 for 1800000 on ["too busy"]
 status 0
 $ explain --mx=mx --source=ip-1 --domain=Solo.Example --shaping=shaping
@@ -166,6 +167,7 @@ max_connection_rate none
 max_deliveries_per_connection 20
 max_ready 1024
 consecutive_connection_failures_before_delay 100
+idle_timeout none
 rule 1 Suspend Threshold 3/3600000 for 1800000 on ["too busy"]
 status 0
 $ explain --sources sources --queues queues --domain one.example --tenant mytenant
@@ -182,6 +184,7 @@ max_connection_rate none
 max_deliveries_per_connection 1024
 max_ready 1024
 consecutive_connection_failures_before_delay 100
+idle_timeout none
 status 0
 $ explain --queues queues --domain d
 error: policy queues tenant.mytenant egress_pool: UnknownPool

@@ -44,12 +44,13 @@ max_connection_rate = '2/hour'
 max_deliveries_per_connection = '1000000'
 max_ready = 1
 consecutive_connection_failures_before_delay = 1000000
+idle_timeout = '1m 30s'
 automation = []
 sources = {}
 ";
 
 const GIVEN_BY_OPTIONS: &str =
-    "default: limit=12 messages=5/1000/5 connections=2/3600000/2 deliveries=1000000 ready=1 failures=1000000\n";
+    "default: limit=12 messages=5/1000/5 connections=2/3600000/2 deliveries=1000000 ready=1 failures=1000000 idle=90000\n";
 
 /// Rules of several actions and patterns, in tables of every kind.
 const RULES: &str = "[[default.automation]]
@@ -74,7 +75,7 @@ duration = '0s'
 match = {DomainSuffix='.E'}
 [[d.automation]]
 regex = 'f'
-action = {SetConfig={value=3, name='consecutive_connection_failures_before_delay'}}
+action = [{SetConfig={value=3, name='consecutive_connection_failures_before_delay'}}, {SetConfig={name='idle_timeout', value=60}}]
 trigger = {Threshold='1/s'}
 duration = 3153600000
 [[d.sources.s.automation]]
@@ -95,6 +96,7 @@ provider domains *.e p:
  rule 'e' messages=1/1000/1 each for 0
 domain d:
  rule 'f' failures=3 1/1000 for 3153600000000
+ rule 'f' idle=60000 1/1000 for 3153600000000
  source s:
  rule '' limit=2 each for 1209600000
  rule '' deliveries=4 each for 1209600000

@@ -76,12 +76,21 @@ fn push_rates(out: &mut String, options: &Options) -> Result<(), Fail> {
 fn push_bounds(out: &mut String, options: &Options) -> Result<(), Fail> {
     push_count(out, "deliveries", options.max_deliveries_per_connection)?;
     push_count(out, "ready", options.max_ready)?;
-    push_count(out, "failures", options.failures_before_delay)
+    push_count(out, "failures", options.failures_before_delay)?;
+    push_timeout(out, options.idle_timeout)
 }
 
 fn push_count(out: &mut String, word: &str, count: Option<u32>) -> Result<(), Fail> {
     match count {
         Some(count) => push_set(out, word, count as u64),
+        None => Ok(()),
+    }
+}
+
+/// A duration in milliseconds.
+fn push_timeout(out: &mut String, timeout: Option<u64>) -> Result<(), Fail> {
+    match timeout {
+        Some(milliseconds) => push_set(out, "idle", milliseconds),
         None => Ok(()),
     }
 }
@@ -145,5 +154,6 @@ fn push_setting(out: &mut String, setting: Setting) -> Result<(), Fail> {
         Setting::Deliveries(number) => push_count(out, "deliveries", Some(number)),
         Setting::ReadyLimit(number) => push_count(out, "ready", Some(number)),
         Setting::FailuresBeforeDelay(number) => push_count(out, "failures", Some(number)),
+        Setting::IdleTimeout(milliseconds) => push_timeout(out, Some(milliseconds)),
     }
 }

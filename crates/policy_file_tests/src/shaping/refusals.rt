@@ -7,7 +7,7 @@ use std::process::Abort;
 use std::test::Fail;
 
 /// Files with one fault, and the table, the key and the word of the refusal.
-const IN_TABLES: [(&str, &str); 44] = [
+const IN_TABLES: [(&str, &str); 48] = [
     ("a = ", "- - NotToml"),
     ("[default]\n[default]", "- - NotToml"),
     ("default = 5", "- default BadType"),
@@ -40,6 +40,10 @@ const IN_TABLES: [(&str, &str); 44] = [
         "default max_connection_rate BadType",
     ),
     ("default.max_ready = 1.5", "default max_ready BadType"),
+    (
+        "default.idle_timeout = true",
+        "default idle_timeout BadType",
+    ),
     ("a.mx_rollup = 1", "a mx_rollup BadType"),
     ("provider.x.match = 5", "provider.x match BadType"),
     ("['a|b']", "a|b - BadName"),
@@ -82,6 +86,15 @@ const IN_TABLES: [(&str, &str); 44] = [
         "a.sources.s consecutive_connection_failures_before_delay BadOption",
     ),
     (
+        "default.idle_timeout = '0s'",
+        "default idle_timeout BadOption",
+    ),
+    ("a.idle_timeout = 0", "a idle_timeout BadOption"),
+    (
+        "a.sources.s.idle_timeout = 'soon'",
+        "a.sources.s idle_timeout BadOption",
+    ),
+    (
         "default.max_message_rate = '5'",
         "default max_message_rate BadThrottle",
     ),
@@ -112,7 +125,7 @@ const IN_TABLES: [(&str, &str); 44] = [
 ];
 
 /// The keys of a rule of which one is at fault, and that key with the word.
-const IN_RULES: [(&str, &str); 43] = [
+const IN_RULES: [(&str, &str); 44] = [
     ("action='Suspend',duration=1", "regex BadPattern"),
     ("action='Suspend',duration=1,regex=5", "regex BadType"),
     ("action='Suspend',duration=1,regex={}", "regex BadType"),
@@ -174,6 +187,10 @@ const IN_RULES: [(&str, &str); 43] = [
     (
         "regex='a',duration=1,action={SetConfig={name='max_ready',value=true}}",
         "action BadType",
+    ),
+    (
+        "regex='a',duration=1,action={SetConfig={name='idle_timeout',value='0ms'}}",
+        "action BadOption",
     ),
     (
         "regex='a',duration=1,action={SetConfig={name='max_message_rate',value='5'}}",
