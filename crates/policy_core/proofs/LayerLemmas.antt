@@ -43,5 +43,6 @@ options_in-push layers layer =
       last_set-push (λ o. o.max_deliveries_per_connection) layers layer,
       last_set-push (λ o. o.max_ready) layers layer,
       last_set-push (λ o. o.failures_before_delay) layers layer,
+      last_set-push (λ o. o.idle_timeout) layers layer,
     )
     refl

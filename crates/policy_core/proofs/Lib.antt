@@ -1,4 +1,5 @@
 pub mod LayerLemmas
+pub mod OptionLemmas
 pub mod MxLemmas
 pub mod PoolLemmas
 pub mod ServedLemmas

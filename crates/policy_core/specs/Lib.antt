@@ -2,6 +2,7 @@ pub mod Limits
 pub mod Layers
 pub mod Names
 pub mod PathOptions
+pub mod OptionNames
 pub mod Mx
 pub mod Policy
 pub mod PoolCheck

@@ -15,6 +15,7 @@ no_options = record {
   max_deliveries_per_connection = None;
   max_ready = None;
   failures_before_delay = None;
+  idle_timeout = None;
 }
 
 -- options with others over them
@@ -26,6 +27,7 @@ options_over under over = record {
   max_deliveries_per_connection = option_or over.max_deliveries_per_connection under.max_deliveries_per_connection;
   max_ready = option_or over.max_ready under.max_ready;
   failures_before_delay = option_or over.failures_before_delay under.failures_before_delay;
+  idle_timeout = option_or over.idle_timeout under.idle_timeout;
 }
 
 -- what layers come to: of each option what the last that sets it says
@@ -37,6 +39,7 @@ options_in layers = record {
   max_deliveries_per_connection = last_set layers (λ o. o.max_deliveries_per_connection);
   max_ready = last_set layers (λ o. o.max_ready);
   failures_before_delay = last_set layers (λ o. o.failures_before_delay);
+  idle_timeout = last_set layers (λ o. o.idle_timeout);
 }
 
 -- what is in force where no rule sets an option: the value of the layers, or the default
@@ -50,4 +53,5 @@ in_force_of options = record {
   deliveries = unwrap_or options.max_deliveries_per_connection default_max_deliveries;
   ready_limit = unwrap_or options.max_ready default_max_ready;
   failures_before_delay = unwrap_or options.failures_before_delay default_failures_before_delay;
+  idle_timeout = options.idle_timeout;
 }

@@ -1,14 +1,18 @@
-//! Laws of layers, of sites and of rotations. Each function does nothing: its contract is the law, and the check proves it.
-ghost use Rattle.std.specs.Prelude.{◌≡◌, ◌<◌, ◌==◌, ◌∷◌, ◌++◌, [], ℕ, List, length, map, bytes_eq, slice_index, count_by, IsTrue, None};
+//! Laws of layers, of the names of options, of sites and of rotations. Each function does nothing: its contract is the law,
+//! and the check proves it.
+ghost use Rattle.std.specs.Prelude.{◌≡◌, ◌<◌, ◌==◌, ◌∷◌, ◌++◌, [], ℕ, List, length, map, bytes_eq, slice_index, count_by, IsTrue, Some, None};
 ghost use Rattle.std.specs.List.{list_any};
 ghost use Rattle.policy_core.specs.Layers.{settings_in, laid_over};
 ghost use Rattle.policy_core.specs.PathOptions.{options_in, options_over};
+ghost use Rattle.policy_core.specs.OptionNames.{name_of_option, option_names, option_named};
 ghost use Rattle.policy_core.specs.Rotation.{rotation_of};
 ghost use Rattle.policy_core.specs.Mx.{hosts_in};
 ghost use Rattle.policy_core.specs.Policy.{Policy};
 ghost use Rattle.policy_core.specs.Site.{site_of, domains_of, shape_of, rollup_of};
 ghost use Rattle.policy_core.specs.declared.settings.Layer.{Layer};
 ghost use Rattle.policy_core.specs.declared.options.Options.{Options};
+ghost use Rattle.policy_core.specs.declared.option_name.OptionName.{OptionName};
+ghost use Rattle.policy_core.specs.declared.option_name.TheConstants.{OPTION_NAMES};
 ghost use Rattle.policy_core.specs.Limits.{policy_name_limit, default_connection_limit, default_max_deliveries, default_max_ready, default_failures_before_delay, greatest_option, greatest_count, default_max_age, default_retry_interval, unspecified, localhost};
 ghost use Rattle.policy_core.specs.declared.names.TheConstants.{POLICY_NAME_LIMIT};
 ghost use Rattle.policy_core.specs.declared.options.TheConstants.{DEFAULT_CONNECTION_LIMIT, DEFAULT_MAX_DELIVERIES, DEFAULT_MAX_READY, DEFAULT_FAILURES_BEFORE_DELAY, GREATEST_OPTION};
@@ -23,6 +27,21 @@ pub fn last_layer_lies_over_others()
 /// What a last table sets of a path's options counts, and what it does not set is as the tables below it have it.
 pub fn last_options_lie_over_others()
     ensures { (layers : List Options) (layer : Options) → options_in (layers ++ layer ∷ []) ≡ options_over (options_in layers) layer }
+{}
+
+/// Different options have different names.
+pub fn each_option_has_a_name_of_its_own()
+    ensures { (a b : OptionName) → name_of_option a ≡ name_of_option b → a ≡ b }
+{}
+
+/// Every option is in the list: a search by its name finds it.
+pub fn each_option_is_found_by_its_name()
+    ensures { (o : OptionName) → option_named (name_of_option o) ≡ Some o }
+{}
+
+/// The list of options that the code has is that of the definitions.
+pub fn options_are_as_listed()
+    ensures { OPTION_NAMES ≡ option_names }
 {}
 
 /// A domain is among the domains of its own site where it has a row of mail exchangers, where it has a shaping table, and

@@ -12,6 +12,7 @@ mod fault;
 pub mod laws;
 mod mx;
 mod names;
+mod option_name;
 mod options;
 mod orders;
 mod policy;
@@ -26,6 +27,7 @@ mod sources;
 pub use fault::{Ignored, PolicyFault, PolicyFile, Why};
 pub use mx::{MxRow, MxTable};
 pub use names::{POLICY_NAME_LIMIT, is_host_name, is_source_name};
+pub use option_name::{OPTION_NAMES, OptionName};
 pub use options::{
     DEFAULT_CONNECTION_LIMIT, DEFAULT_FAILURES_BEFORE_DELAY, DEFAULT_MAX_DELIVERIES,
     DEFAULT_MAX_READY, GREATEST_OPTION, InForce, Options, overlay,

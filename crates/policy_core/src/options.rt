@@ -37,6 +37,8 @@ pub struct Options {
     /// How many connections refused in a row delay the ready messages
     /// (`consecutive_connection_failures_before_delay` in files).
     pub failures_before_delay: Option<u32>,
+    /// How long a connection that has nothing to send may be kept, in milliseconds.
+    pub idle_timeout: Option<u64>,
 }
 
 /// The options of a path in force at a moment. A key says which rule set a throttle: 0 is the path's own, r is the r-th
@@ -53,6 +55,8 @@ pub struct InForce {
     pub deliveries: u32,
     pub ready_limit: u32,
     pub failures_before_delay: u32,
+    /// In milliseconds; none where no connection is kept that has nothing to send.
+    pub idle_timeout: Option<u64>,
 }
 
 impl Options {
@@ -67,6 +71,7 @@ impl Options {
             max_deliveries_per_connection: None,
             max_ready: None,
             failures_before_delay: None,
+            idle_timeout: None,
         }
     }
 }
@@ -89,6 +94,7 @@ impl InForce {
             failures_before_delay: options
                 .failures_before_delay
                 .unwrap_or(DEFAULT_FAILURES_BEFORE_DELAY),
+            idle_timeout: options.idle_timeout,
         }
     }
 }
@@ -105,4 +111,5 @@ pub fn overlay(under: &mut Options, over: &Options)
         .or(under.max_deliveries_per_connection);
     under.max_ready = over.max_ready.or(under.max_ready);
     under.failures_before_delay = over.failures_before_delay.or(under.failures_before_delay);
+    under.idle_timeout = over.idle_timeout.or(under.idle_timeout);
 }

@@ -1,8 +1,10 @@
 //! The rules of a path: which replies they react to, and what they then do for a while (KumoMTA's traffic shaping
 //! automation).
 ghost use Rattle.std.specs.Prelude.{◌≡◌, IfOk};
+ghost use Rattle.policy_core.specs.OptionNames.{option_of};
 
 use crate::copying::{TryCopy, copy_items};
+use crate::option_name::OptionName;
 use kumo_base::{Items, Memory, Text};
 use std::alloc::Global;
 use throttle_spec::ThrottleSpec;
@@ -25,6 +27,8 @@ pub enum Setting {
     ReadyLimit(u32),
     /// `consecutive_connection_failures_before_delay`
     FailuresBeforeDelay(u32),
+    /// `idle_timeout`, in milliseconds
+    IdleTimeout(u64),
 }
 
 /// What a rule does while it is in force.
@@ -60,6 +64,23 @@ pub struct Rule {
     pub trigger: Trigger,
     /// How long the rule is in force once it fired, in milliseconds.
     pub duration: u64,
+}
+
+impl Setting {
+    /// The option that is set.
+    pub fn option(&self) -> OptionName
+        ensures { result ≡ option_of self.now }
+    {
+        match self {
+            Setting::ConnectionLimit(_) => OptionName::ConnectionLimit,
+            Setting::MessageRate(_) => OptionName::MessageRate,
+            Setting::ConnectionRate(_) => OptionName::ConnectionRate,
+            Setting::Deliveries(_) => OptionName::Deliveries,
+            Setting::ReadyLimit(_) => OptionName::ReadyLimit,
+            Setting::FailuresBeforeDelay(_) => OptionName::FailuresBeforeDelay,
+            Setting::IdleTimeout(_) => OptionName::IdleTimeout,
+        }
+    }
 }
 
 impl Rule {

@@ -36,6 +36,7 @@ options_in-append layers others =
       last_set-append (λ o. o.max_deliveries_per_connection) layers others,
       last_set-append (λ o. o.max_ready) layers others,
       last_set-append (λ o. o.failures_before_delay) layers others,
+      last_set-append (λ o. o.idle_timeout) layers others,
     )
     refl
 
@@ -48,6 +49,7 @@ over_assoc a b c =
       or_assoc c.max_deliveries_per_connection b.max_deliveries_per_connection a.max_deliveries_per_connection,
       or_assoc c.max_ready b.max_ready a.max_ready,
       or_assoc c.failures_before_delay b.failures_before_delay a.failures_before_delay,
+      or_assoc c.idle_timeout b.idle_timeout a.idle_timeout,
     )
     refl
 
@@ -60,6 +62,7 @@ over_none o =
       or_none o.max_deliveries_per_connection,
       or_none o.max_ready,
       or_none o.failures_before_delay,
+      or_none o.idle_timeout,
     )
     refl
 

@@ -1,8 +1,11 @@
 -- What applies on a path, line by line: the site, the source, the options in force while no rule has fired, and the rules.
 use Rattle.std.specs.Prelude.{ℕ, ◌+◌, List, [], ◌∷◌, ◌++◌, Option, Some, None, codes, decimal}
+use Rattle.std.specs.List.{flat_map}
 use Rattle.serde_json.specs.Data.{string, array, Items, no_items, item}
 use Rattle.serde_json.specs.Written.{compact_text}
 use Rattle.throttle_spec.specs.Throttle.{Throttle}
+use Rattle.policy_core.specs.declared.option_name.OptionName.{OptionName}
+use Rattle.policy_core.specs.declared.option_name.OptionName.TheVariants as option
 use Rattle.policy_core.specs.declared.options.InForce.{InForce}
 use Rattle.policy_core.specs.declared.rules.Rule.{Rule}
 use Rattle.policy_core.specs.declared.rules.Setting.{Setting}
@@ -13,6 +16,7 @@ use Rattle.policy_core.specs.declared.rules.Trigger.{Trigger}
 use Rattle.policy_core.specs.declared.rules.Trigger.TheVariants as trigger
 use Rattle.policy_core.specs.declared.site.Site.{Site}
 use Rattle.policy_core.specs.declared.site.PathBase.{PathBase}
+use Rattle.policy_core.specs.OptionNames.{name_of_option, option_names, option_of}
 use Rattle.policy_core.specs.PathOptions.{in_force_of}
 
 -- a line: its name, a blank and its value
@@ -27,25 +31,42 @@ abbrev pub rate_text : Option Throttle → List ℕ
 rate_text None = codes "none"
 rate_text (Some t) = throttle_text t
 
--- the options, in the order in which they are always listed
+-- a duration in milliseconds
+abbrev pub timeout_text : Option ℕ → List ℕ
+timeout_text None = codes "none"
+timeout_text (Some milliseconds) = decimal milliseconds
+
+-- what is in force of an option
+abbrev pub value_text : InForce → OptionName → List ℕ
+value_text o option.ConnectionLimit = decimal o.connection_limit
+value_text o option.MessageRate = rate_text o.message_rate
+value_text o option.ConnectionRate = rate_text o.connection_rate
+value_text o option.Deliveries = decimal o.deliveries
+value_text o option.ReadyLimit = decimal o.ready_limit
+value_text o option.FailuresBeforeDelay = decimal o.failures_before_delay
+value_text o option.IdleTimeout = timeout_text o.idle_timeout
+
+abbrev pub option_line : InForce → OptionName → List ℕ
+option_line o name = line (name_of_option name) (value_text o name)
+
+-- every option, in the order in which they are listed
 abbrev pub option_lines : InForce → List ℕ
-option_lines o =
-    line (codes "connection_limit") (decimal o.connection_limit)
-    ++ (line (codes "max_message_rate") (rate_text o.message_rate)
-    ++ (line (codes "max_connection_rate") (rate_text o.connection_rate)
-    ++ (line (codes "max_deliveries_per_connection") (decimal o.deliveries)
-    ++ (line (codes "max_ready") (decimal o.ready_limit)
-    ++ line (codes "consecutive_connection_failures_before_delay") (decimal o.failures_before_delay)))))
+option_lines o = flat_map (option_line o) option_names
+
+-- what a rule sets an option to
+abbrev pub set_value_text : Setting → List ℕ
+set_value_text (setting.ConnectionLimit n) = decimal n
+set_value_text (setting.MessageRate t) = throttle_text t
+set_value_text (setting.ConnectionRate t) = throttle_text t
+set_value_text (setting.Deliveries n) = decimal n
+set_value_text (setting.ReadyLimit n) = decimal n
+set_value_text (setting.FailuresBeforeDelay n) = decimal n
+set_value_text (setting.IdleTimeout milliseconds) = decimal milliseconds
+
+abbrev pub setting_text : Setting → List ℕ
+setting_text s = name_of_option (option_of s) ++ (codes "=" ++ set_value_text s)
 
 -- what a rule does
-abbrev pub setting_text : Setting → List ℕ
-setting_text (setting.ConnectionLimit n) = codes "connection_limit=" ++ decimal n
-setting_text (setting.MessageRate t) = codes "max_message_rate=" ++ throttle_text t
-setting_text (setting.ConnectionRate t) = codes "max_connection_rate=" ++ throttle_text t
-setting_text (setting.Deliveries n) = codes "max_deliveries_per_connection=" ++ decimal n
-setting_text (setting.ReadyLimit n) = codes "max_ready=" ++ decimal n
-setting_text (setting.FailuresBeforeDelay n) = codes "consecutive_connection_failures_before_delay=" ++ decimal n
-
 abbrev pub action_text : Action → List ℕ
 action_text action.Suspend = codes "Suspend"
 action_text action.SuspendTenant = codes "SuspendTenant"

@@ -1,20 +1,23 @@
 //! The text that says what applies on a path.
 ghost use Rattle.std.specs.Prelude.{◌≡◌, ◌++◌, IfOk, OnOk, OnErr, decimal};
+ghost use Rattle.std.specs.List.{flat_map};
 ghost use Rattle.serde_json.specs.Data.{array};
 ghost use Rattle.serde_json.specs.View.{view};
-ghost use Rattle.shaping_merge.specs.ExplainText.{line, throttle_text, rate_text, option_lines, setting_text, action_text, trigger_text, pattern_items, patterns_text, rule_line, rule_lines, explained};
+ghost use Rattle.shaping_merge.specs.ExplainText.{line, throttle_text, rate_text, timeout_text, value_text, option_line, set_value_text, setting_text, action_text, trigger_text, pattern_items, patterns_text, rule_line, rule_lines, explained};
 
 use itoa::Buffer;
 use kumo_base::{Memory, Text};
-use policy_core::{Action, InForce, PathBase, Rule, Setting, Site, Trigger};
+use policy_core::{
+    Action, InForce, OPTION_NAMES, OptionName, PathBase, Rule, Setting, Site, Trigger,
+};
 use serde_json::Value;
 use std::alloc::Global;
 use throttle_spec::ThrottleSpec;
 
-/// Appends what applies on the path of a site and a source, in lines of a name, a blank and a value: `site`, `source`, the six
-/// options by their names in files with what is in force while no rule has fired, and the rules, numbered from 1. Durations
-/// are in milliseconds, a throttle is `quantity/period burst b`, and `none` stands for no throttle. After `Memory` the text is
-/// as it was.
+/// Appends what applies on the path of a site and a source, in lines of a name, a blank and a value: `site`, `source`, each
+/// option by its name in files with what is in force while no rule has fired, and the rules, numbered from 1. Durations
+/// are in milliseconds, a throttle is `quantity/period burst b`, and `none` stands for no throttle or duration. After `Memory`
+/// the text is as it was.
 pub fn explain_text(
     alloc: Global,
     base: &PathBase,
@@ -36,7 +39,7 @@ fn explained(alloc: Global, base: &PathBase, site: &Site, source: &str) -> Resul
     let mut text = Text::new(alloc);
     push_line(&mut text, "site", site.name.as_str())?;
     push_line(&mut text, "source", source)?;
-    push_options(&mut text, &InForce::of(&base.options))?;
+    push_options(&mut text, &OPTION_NAMES, &InForce::of(&base.options))?;
     push_rules(alloc, &mut text, base.rules.as_slice())?;
     Ok(text)
 }
@@ -61,14 +64,6 @@ fn push_number(text: &mut Text, number: u64) -> Result<(), Memory>
     Ok(())
 }
 
-/// Appends the line of a number.
-fn push_number_line(text: &mut Text, name: &str, number: u32) -> Result<(), Memory>
-    ensures { OnOk result (text.new ≡ text.old ++ line name.now (decimal number)) }
-{
-    let mut buffer = Buffer::new();
-    push_line(text, name, buffer.format(number))
-}
-
 /// Appends a throttle.
 fn push_throttle(text: &mut Text, throttle: ThrottleSpec) -> Result<(), Memory>
     ensures { OnOk result (text.new ≡ text.old ++ throttle_text throttle) }
@@ -91,32 +86,52 @@ fn push_rate(text: &mut Text, rate: Option<ThrottleSpec>) -> Result<(), Memory>
     }
 }
 
-/// Appends the line of an option that is a throttle.
-fn push_rate_line(text: &mut Text, name: &str, rate: Option<ThrottleSpec>) -> Result<(), Memory>
-    ensures { OnOk result (text.new ≡ text.old ++ line name.now (rate_text rate)) }
+/// Appends a duration in milliseconds, or that there is none.
+fn push_timeout(text: &mut Text, timeout: Option<u64>) -> Result<(), Memory>
+    ensures { OnOk result (text.new ≡ text.old ++ timeout_text timeout) }
 {
-    text.push_str(name)?;
+    match timeout {
+        Some(milliseconds) => push_number(text, milliseconds),
+        None => text.push_str("none"),
+    }
+}
+
+/// Appends the lines of these options in force.
+fn push_options(text: &mut Text, names: &[OptionName], options: &InForce) -> Result<(), Memory>
+    ensures { OnOk result (text.new ≡ text.old ++ flat_map (option_line options.now) names.now) }
+{
+    for name in names {
+        push_option(text, *name, options)?;
+    }
+    Ok(())
+}
+
+/// Appends the line of an option in force.
+fn push_option(text: &mut Text, name: OptionName, options: &InForce) -> Result<(), Memory>
+    ensures { OnOk result (text.new ≡ text.old ++ option_line options.now name) }
+{
+    text.push_str(name.name())?;
     text.push_str(" ")?;
-    push_rate(text, rate)?;
+    push_value(text, name, options)?;
     text.push_str("\n")?;
     Ok(())
 }
 
-/// Appends the lines of the options in force.
-fn push_options(text: &mut Text, options: &InForce) -> Result<(), Memory>
-    ensures { OnOk result (text.new ≡ text.old ++ option_lines options.now) }
+/// Appends what is in force of an option.
+fn push_value(text: &mut Text, name: OptionName, options: &InForce) -> Result<(), Memory>
+    ensures { OnOk result (text.new ≡ text.old ++ value_text options.now name) }
 {
-    push_number_line(text, "connection_limit", options.connection_limit)?;
-    push_rate_line(text, "max_message_rate", options.message_rate)?;
-    push_rate_line(text, "max_connection_rate", options.connection_rate)?;
-    push_number_line(text, "max_deliveries_per_connection", options.deliveries)?;
-    push_number_line(text, "max_ready", options.ready_limit)?;
-    push_number_line(
-        text,
-        "consecutive_connection_failures_before_delay",
-        options.failures_before_delay,
-    )?;
-    Ok(())
+    match name {
+        OptionName::ConnectionLimit => push_number(text, u64::from(options.connection_limit)),
+        OptionName::MessageRate => push_rate(text, options.message_rate),
+        OptionName::ConnectionRate => push_rate(text, options.connection_rate),
+        OptionName::Deliveries => push_number(text, u64::from(options.deliveries)),
+        OptionName::ReadyLimit => push_number(text, u64::from(options.ready_limit)),
+        OptionName::FailuresBeforeDelay => {
+            push_number(text, u64::from(options.failures_before_delay))
+        }
+        OptionName::IdleTimeout => push_timeout(text, options.idle_timeout),
+    }
 }
 
 /// Appends the lines of rules, numbered from 1.
@@ -168,34 +183,24 @@ fn push_action(text: &mut Text, action: Action) -> Result<(), Memory>
 fn push_setting(text: &mut Text, setting: Setting) -> Result<(), Memory>
     ensures { OnOk result (text.new ≡ text.old ++ setting_text setting) }
 {
+    text.push_str(setting.option().name())?;
+    text.push_str("=")?;
+    push_set_value(text, setting)
+}
+
+/// Appends the value that a rule sets.
+fn push_set_value(text: &mut Text, setting: Setting) -> Result<(), Memory>
+    ensures { OnOk result (text.new ≡ text.old ++ set_value_text setting) }
+{
     match setting {
-        Setting::ConnectionLimit(limit) => push_set_number(text, "connection_limit=", limit),
-        Setting::MessageRate(rate) => push_set_rate(text, "max_message_rate=", rate),
-        Setting::ConnectionRate(rate) => push_set_rate(text, "max_connection_rate=", rate),
-        Setting::Deliveries(count) => {
-            push_set_number(text, "max_deliveries_per_connection=", count)
-        }
-        Setting::ReadyLimit(limit) => push_set_number(text, "max_ready=", limit),
-        Setting::FailuresBeforeDelay(count) => {
-            push_set_number(text, "consecutive_connection_failures_before_delay=", count)
-        }
+        Setting::ConnectionLimit(limit) => push_number(text, u64::from(limit)),
+        Setting::MessageRate(rate) => push_throttle(text, rate),
+        Setting::ConnectionRate(rate) => push_throttle(text, rate),
+        Setting::Deliveries(count) => push_number(text, u64::from(count)),
+        Setting::ReadyLimit(limit) => push_number(text, u64::from(limit)),
+        Setting::FailuresBeforeDelay(count) => push_number(text, u64::from(count)),
+        Setting::IdleTimeout(milliseconds) => push_number(text, milliseconds),
     }
-}
-
-/// Appends an option and its number.
-fn push_set_number(text: &mut Text, name: &str, number: u32) -> Result<(), Memory>
-    ensures { OnOk result (text.new ≡ text.old ++ (name.now ++ decimal number)) }
-{
-    text.push_str(name)?;
-    push_number(text, u64::from(number))
-}
-
-/// Appends an option and its throttle.
-fn push_set_rate(text: &mut Text, name: &str, throttle: ThrottleSpec) -> Result<(), Memory>
-    ensures { OnOk result (text.new ≡ text.old ++ (name.now ++ throttle_text throttle)) }
-{
-    text.push_str(name)?;
-    push_throttle(text, throttle)
 }
 
 /// Appends when a rule fires.

@@ -1,4 +1,5 @@
 pub mod ListLemmas
+pub mod OptionLemmas
 pub mod Firsts
 pub mod FaultOrder
 pub mod TooMany

@@ -1,5 +1,5 @@
 -- What a shaping file gives (KumoMTA's manual, the shaping helper).
-use Rattle.std.specs.Prelude.{ℕ, List, [], ◌∷◌, ◌++◌, Bool, true, false, ◌&&◌, ◌||◌, Result, option_and_then, option_to_list, unwrap_or, bytes_eq, codes, if◌then◌else◌, map}
+use Rattle.std.specs.Prelude.{ℕ, List, [], ◌∷◌, ◌++◌, Bool, true, false, ◌&&◌, ◌||◌, Result, is_some, option_and_then, option_to_list, unwrap_or, bytes_eq, codes, if◌then◌else◌, map}
 use Rattle.std.specs.List.{flat_map, list_any}
 use Rattle.std.specs.Str.{str_to_ascii_lowercase}
 use Rattle.toml.specs.Data.{Data, Members, no_members, member, get_member, as_str, as_table, as_bool}
@@ -15,6 +15,7 @@ use Rattle.policy_core.specs.declared.shaping.DomainShape.{DomainShape}
 use Rattle.policy_core.specs.declared.shaping.Match.{Match}
 use Rattle.policy_core.specs.declared.shaping.Provider.{Provider}
 use Rattle.policy_core.specs.declared.shaping.Shaping.{Shaping}
+use Rattle.policy_core.specs.OptionNames.{option_named}
 use Rattle.policy_toml.specs.declared.fault.Fault.{Fault}
 use Rattle.policy_toml.specs.Places.{ignored_at, numbered}
 use Rattle.policy_toml.specs.Values.{document_in}
@@ -116,12 +117,10 @@ is_provider_kind of_kind.Default = false
 is_provider_kind of_kind.Domain = false
 is_provider_kind of_kind.Source = false
 
--- a key that has an effect in a table of this kind
+-- a key that has an effect in a table of this kind: the name of an option, and some more
 abbrev pub is_known_key : TableKind → List ℕ → Bool
 is_known_key kind key =
-    bytes_eq key (codes "connection_limit") || bytes_eq key (codes "max_message_rate") || bytes_eq key (codes "max_connection_rate")
-    || bytes_eq key (codes "max_deliveries_per_connection") || bytes_eq key (codes "max_ready")
-    || bytes_eq key (codes "consecutive_connection_failures_before_delay") || bytes_eq key (codes "automation")
+    is_some (option_named key) || bytes_eq key (codes "automation")
     || (bytes_eq key (codes "sources") && has_sources kind)
     || (bytes_eq key (codes "mx_rollup") && is_domain_kind kind)
     || (bytes_eq key (codes "match") && is_provider_kind kind)

@@ -10,7 +10,7 @@ ghost use Rattle.shaping_policy.specs.ShapingFile.{ignored_of_table, ignored_at_
 use crate::rule_values::action_at;
 use crate::tables::{FileTable, RuleTable, TableKind, items_at};
 use kumo_base::Memory;
-use policy_core::{Action, Ignored, PolicyFile};
+use policy_core::{Action, Ignored, OptionName, PolicyFile};
 use policy_toml::{note_ignored, numbered};
 use std::alloc::Global;
 use toml::{Table, Value};
@@ -77,14 +77,11 @@ fn add_keys(
 fn is_known_key(kind: TableKind, key: &str) -> bool
     ensures { result ≡ is_known_key kind key.now }
 {
+    if OptionName::named(key).is_some() {
+        return true;
+    }
     match key {
-        "connection_limit"
-        | "max_message_rate"
-        | "max_connection_rate"
-        | "max_deliveries_per_connection"
-        | "max_ready"
-        | "consecutive_connection_failures_before_delay"
-        | "automation" => true,
+        "automation" => true,
         "sources" => kind != TableKind::Source,
         "mx_rollup" => kind == TableKind::Domain,
         "match" => kind == TableKind::Provider,

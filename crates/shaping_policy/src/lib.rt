@@ -34,9 +34,10 @@ use std::alloc::Global;
 /// What a shaping file says of paths, and its keys that have no effect, from the bytes of the file (TOML). It reads:
 /// - The table `default`, for all paths; `provider`, with a table for each provider; at any other key of the top level the
 ///   table of a domain. Each of these may have a table `sources`, with a table for each source.
-/// - In all these tables the options `connection_limit`, `max_deliveries_per_connection`, `max_ready` and
+/// - In all these tables the options: `connection_limit`, `max_deliveries_per_connection`, `max_ready` and
 ///   `consecutive_connection_failures_before_delay`, numbers from 1 to 1,000,000 as such or as text, behind `local:` or
-///   not; `max_message_rate` and `max_connection_rate`, rates as `100/min`; and `automation`, a list of tables of rules.
+///   not; `max_message_rate` and `max_connection_rate`, rates as `100/min`; `idle_timeout`, a duration of at least a
+///   millisecond, as a text with units or a number of seconds; and `automation`, a list of tables of rules.
 /// - In the table of a provider also `match`: a table of one suffix, `MXSuffix` or `DomainSuffix`, or a list of them. In
 ///   that of a domain also `mx_rollup`, a truth value, true where it is not there.
 /// - In the table of a rule: `regex`, a search pattern of at most `PATTERN_LIMIT` bytes or a list of them, at most
@@ -57,7 +58,7 @@ use std::alloc::Global;
 /// - `BadName`: a domain, provider or source of a name that none may have. The key is `-`.
 /// - `Twice`: a domain equal in lower case to one before it in byte order. The key is `-`.
 /// - `BadDuration`: a `duration` that is not there, or a text or number that is no duration.
-/// - `BadOption`, `BadThrottle`: a number or text that the option may not have. The key is that of the option, or `action`
+/// - `BadOption`, `BadThrottle`: a number, text or duration that the option may not have. The key is that of the option, or `action`
 ///   where a rule sets it.
 /// - `BadPattern`: a `regex` that is not there, no pattern, too long, or one too many.
 /// - `BadTrigger`: a `trigger` that is a text or table and no trigger.

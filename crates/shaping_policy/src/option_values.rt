@@ -3,34 +3,40 @@ ghost use Rattle.std.specs.Prelude.{◌≡◌};
 ghost use Rattle.std.specs.List.{list_any};
 ghost use Rattle.throttle_spec.specs.ThrottleText.{is_underscore};
 ghost use Rattle.toml.specs.View.{table_view, view};
+ghost use Rattle.policy_core.specs.OptionNames.{name_of_option};
 ghost use Rattle.policy_toml.specs.Walks.{value_at};
-ghost use Rattle.shaping_policy.specs.OptionValues.{option_number, whole_number, spelled_number, digits_in, number_at, rate_at, setting_at, options_of};
+ghost use Rattle.shaping_policy.specs.OptionValues.{option_number, whole_number, spelled_number, digits_in, number_at, rate_at, timeout_at, setting_of, setting_at, options_of};
 
-use policy_core::{GREATEST_OPTION, Options, Setting, Why};
-use policy_toml::entry;
+use policy_core::{GREATEST_OPTION, OptionName, Options, Setting, Why};
+use policy_toml::{duration_at, entry};
 use throttle_spec::{ThrottleSpec, number_in, without_local};
 use toml::{Table, Value};
 
-/// What a key and a value set, `None` where the key is that of no option. The value may be refused: as `BadType` where it is
-/// of another kind than the option, else as `BadOption` or `BadThrottle`.
+/// What a key and a value set, `None` where the key is that of no option. The value may be refused as that of the option is.
 #[tactic(auto, unfolding(crate::specs::OptionValues::setting_at))]
 pub(crate) fn setting_at(key: &str, value: &Value) -> Option<Result<Setting, Why>>
     ensures { result ≡ setting_at key.now (view value.now) }
 {
-    if key == "connection_limit" {
-        Some(number_at(value).map(Setting::ConnectionLimit))
-    } else if key == "max_message_rate" {
-        Some(rate_at(value).map(Setting::MessageRate))
-    } else if key == "max_connection_rate" {
-        Some(rate_at(value).map(Setting::ConnectionRate))
-    } else if key == "max_deliveries_per_connection" {
-        Some(number_at(value).map(Setting::Deliveries))
-    } else if key == "max_ready" {
-        Some(number_at(value).map(Setting::ReadyLimit))
-    } else if key == "consecutive_connection_failures_before_delay" {
-        Some(number_at(value).map(Setting::FailuresBeforeDelay))
-    } else {
-        None
+    match OptionName::named(key) {
+        Some(option) => Some(setting_of(option, value)),
+        None => None,
+    }
+}
+
+/// What a value sets an option to. It is refused as `BadType` where it is of another kind than the option, else as
+/// `BadOption` or `BadThrottle`.
+#[tactic(auto, unfolding(crate::specs::OptionValues::setting_of))]
+fn setting_of(option: OptionName, value: &Value) -> Result<Setting, Why>
+    ensures { result ≡ setting_of option (view value.now) }
+{
+    match option {
+        OptionName::ConnectionLimit => number_at(value).map(Setting::ConnectionLimit),
+        OptionName::MessageRate => rate_at(value).map(Setting::MessageRate),
+        OptionName::ConnectionRate => rate_at(value).map(Setting::ConnectionRate),
+        OptionName::Deliveries => number_at(value).map(Setting::Deliveries),
+        OptionName::ReadyLimit => number_at(value).map(Setting::ReadyLimit),
+        OptionName::FailuresBeforeDelay => number_at(value).map(Setting::FailuresBeforeDelay),
+        OptionName::IdleTimeout => timeout_at(value).map(Setting::IdleTimeout),
     }
 }
 
@@ -40,20 +46,21 @@ pub(crate) fn options_of(table: &Table) -> Options
     ensures { result ≡ options_of (table_view table.now) }
 {
     Options {
-        connection_limit: number_of(table, "connection_limit"),
-        max_message_rate: rate_of(table, "max_message_rate"),
-        max_connection_rate: rate_of(table, "max_connection_rate"),
-        max_deliveries_per_connection: number_of(table, "max_deliveries_per_connection"),
-        max_ready: number_of(table, "max_ready"),
-        failures_before_delay: number_of(table, "consecutive_connection_failures_before_delay"),
+        connection_limit: number_of(table, OptionName::ConnectionLimit),
+        max_message_rate: rate_of(table, OptionName::MessageRate),
+        max_connection_rate: rate_of(table, OptionName::ConnectionRate),
+        max_deliveries_per_connection: number_of(table, OptionName::Deliveries),
+        max_ready: number_of(table, OptionName::ReadyLimit),
+        failures_before_delay: number_of(table, OptionName::FailuresBeforeDelay),
+        idle_timeout: timeout_of(table, OptionName::IdleTimeout),
     }
 }
 
-/// The number at a key.
-fn number_of(table: &Table, key: &str) -> Option<u32>
-    ensures { result ≡ value_at number_at key.now (table_view table.now) }
+/// The number that a table gives to an option.
+fn number_of(table: &Table, option: OptionName) -> Option<u32>
+    ensures { result ≡ value_at number_at (name_of_option option) (table_view table.now) }
 {
-    match entry(table, key) {
+    match entry(table, option.name()) {
         Some(value) => match number_at(value) {
             Ok(number) => Some(number),
             Err(_) => None,
@@ -62,13 +69,26 @@ fn number_of(table: &Table, key: &str) -> Option<u32>
     }
 }
 
-/// The rate at a key.
-fn rate_of(table: &Table, key: &str) -> Option<ThrottleSpec>
-    ensures { result ≡ value_at rate_at key.now (table_view table.now) }
+/// The rate that a table gives to an option.
+fn rate_of(table: &Table, option: OptionName) -> Option<ThrottleSpec>
+    ensures { result ≡ value_at rate_at (name_of_option option) (table_view table.now) }
 {
-    match entry(table, key) {
+    match entry(table, option.name()) {
         Some(value) => match rate_at(value) {
             Ok(rate) => Some(rate),
+            Err(_) => None,
+        },
+        None => None,
+    }
+}
+
+/// The duration that a table gives to an option, in milliseconds.
+fn timeout_of(table: &Table, option: OptionName) -> Option<u64>
+    ensures { result ≡ value_at timeout_at (name_of_option option) (table_view table.now) }
+{
+    match entry(table, option.name()) {
+        Some(value) => match timeout_at(value) {
+            Ok(milliseconds) => Some(milliseconds),
             Err(_) => None,
         },
         None => None,
@@ -145,5 +165,24 @@ fn rate_at(value: &Value) -> Result<ThrottleSpec, Why>
             Err(_) => Err(Why::BadThrottle),
         },
         None => Err(Why::BadType),
+    }
+}
+
+/// The milliseconds that a value gives to an option: a duration, a text with units or a whole number of seconds, of at least
+/// a millisecond.
+#[tactic(auto, unfolding(crate::specs::OptionValues::timeout_at))]
+fn timeout_at(value: &Value) -> Result<u64, Why>
+    ensures { result ≡ timeout_at (view value.now) }
+{
+    match duration_at(value) {
+        Ok(milliseconds) => {
+            if 1 <= milliseconds {
+                Ok(milliseconds)
+            } else {
+                Err(Why::BadOption)
+            }
+        }
+        Err(Why::BadType) => Err(Why::BadType),
+        Err(_) => Err(Why::BadOption),
     }
 }
