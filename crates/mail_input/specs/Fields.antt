@@ -38,7 +38,8 @@ IsCauseOf fault.Memory reading = ⊤
 -- the JSON object that a line is
 unfoldable pub object_in : List ℕ → Result Data MailWhy
 object_in line =
-    required NotJson (option_and_then (λ d. if is_some (as_object d) then Some d else None) (if is_utf8 line then read line else None))
+    required NotJson (option_and_then (λ d. if is_some (as_object d) then Some d else None)
+    (if is_utf8 line then read line else None))
 
 -- the text at a key; no value and a value that is no text are the same
 abbrev pub text_at : List ℕ → Data → Result (List ℕ) MailWhy

@@ -1,17 +1,15 @@
 -- What the tests of an address stand on.
-use Rattle.std.proofs.Common.{◌≡◌, ◌<◌, ◌≤◌, ◌-◌, ◌+◌, ℕ, List, true, false, not, ◌&&◌, ◌==◌, nat_lt, nat_le, length, get_or, take, drop, Option, Some, None, MatchOption, refl, sym, ap, ◌∙◌, eq-eqb, ne_eqb, arith, length-drop, get_or-drop}
+use Rattle.std.proofs.Common.{◌≡◌, ◌<◌, ◌≤◌, ◌-◌, ◌+◌, ℕ, List, true, false, not, nat_lt, nat_le, length, get_or, take, drop, Option, Some, None, MatchOption, refl, sym, ap, ◌∙◌, eq-eqb, ne_eqb, arith, length-drop, get_or-drop}
 use Rattle.std.proofs.lemmas.List.{length-map}
 use Rattle.std.proofs.lemmas.List.Elements.{All-from_get_or}
 use Rattle.std.proofs.lemmas.Bool.{and_parts, leb-true, le-leb}
 use Rattle.std.specs.List.{list_any, list_all, before_last, after_last, suffix_len}
-use Rattle.std.specs.Char.{to_ascii_lowercase}
-use Rattle.std.specs.Str.{str_to_ascii_lowercase}
 use Rattle.std.specs.Str.Pattern.{RFindsChar}
 use Rattle.std.proofs.lemmas.List.Sums.{suffix_len_is}
-use Rattle.std.proofs.lemmas.List.Folds.{list_any_at, list_any_none, list_all-map}
+use Rattle.std.proofs.lemmas.List.Folds.{list_any_at, list_any_none}
 use Rattle.std.proofs.lemmas.Str.Pattern.{NoCharPasses-char}
 use Rattle.std.proofs.lemmas.Str.{len_utf8_ascii}
-use Rattle.queue_name.specs.QueueName.{is_domain_byte, is_domain, is_name}
+use Rattle.queue_name.specs.QueueName.{is_domain, is_name}
 use Rattle.queue_name.specs.declared.message.TheConstants.{ADDRESS_LIMIT}
 use Rattle.queue_name.specs.declared.name.TheConstants.{NAME_LIMIT}
 use Rattle.queue_name.specs.Address.{is_at, is_routed_domain, is_address, is_address_byte, domain_of}
@@ -49,11 +47,6 @@ around_at_is s (Some x) h =
     NoCharPasses-char 64 (drop j s) (k - j) h.2.0 (omega arith) (omega (arith, length-drop j s)) (get_or-drop j s (k - j) 0 ∙ ap (λ n. get_or s n 0) back ∙ e) in
     let parts = last_at s i (omega (arith, h.7)) (h.2.1.byte (omega arith)) behind in
     (parts.0, parts.1 ∙ sym h.3, parts.2 ∙ ap (λ n. drop n s) (sym next) ∙ sym h.4)
-
--- the test of a domain in lower case, by the bytes as they stand
-pub routed_is : (d : List ℕ) → is_routed_domain (str_to_ascii_lowercase d)
-    ≡ (nat_lt 0 (length d) && list_all (λ b. is_domain_byte (to_ascii_lowercase b)) d && list_all (λ b. not (to_ascii_lowercase b == 62) && not (to_ascii_lowercase b == 124) && not (to_ascii_lowercase b == 61)) d)
-routed_is d = rw (length-map, list_all-map, list_all-map) refl
 
 -- a domain is no longer than the address that has it
 length-domain_of : (a : List ℕ) → length (domain_of a) ≤ length a
