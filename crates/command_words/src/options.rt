@@ -75,7 +75,9 @@ fn first_option(words: &[Text]) -> Option<(Given<'_>, &[Text])>
 /// What stands before and behind the first `=`.
 fn around_equals(word: &str) -> Option<(&str, &str)>
     ensures { MatchOption result (list_any is_equals word.now ≡ false)
-        (λ p. (list_any is_equals word.now ≡ true) × (before_first is_equals word.now ≡ p.0.now) × (after_first is_equals word.now ≡ p.1.now)) }
+        (λ p. (list_any is_equals word.now ≡ true)
+        × (before_first is_equals word.now ≡ p.0.now)
+        × (after_first is_equals word.now ≡ p.1.now)) }
 {
     word.split_once('=')
 }

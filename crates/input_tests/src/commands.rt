@@ -83,9 +83,9 @@ fn push_texts(out: &mut String, front: &str, texts: PolicyNames<'_>) -> Result<(
 
 fn push_asked(out: &mut String, asked: Asked<'_>) -> Result<(), Fail> {
     let options = [
-        ("", Some(asked.domain)),
-        (" tenant ", asked.tenant),
-        (" campaign ", asked.campaign),
+        ("", Some(asked.parts.domain)),
+        (" tenant ", asked.parts.tenant),
+        (" campaign ", asked.parts.campaign),
         (" source ", Some(asked.source)),
     ];
     push_options(out, "explain ", options.as_slice())?;
