@@ -21,15 +21,18 @@ last_at : (s : List ℕ) (i : ℕ) → i < length s → get_or s i 0 ≡ 64 → 
 last_at s i within here behind =
     let stops : not (is_at (get_or s (i + 1 - 1) 0)) ≡ false =
     ap (λ k. not (is_at (get_or s k 0))) {x = i + 1 - 1} {y = i} (omega arith) ∙ ap not (eq-eqb _ 64 here) in
-    let tail = suffix_len_is (λ b. not (is_at b)) s (i + 1) 0 (omega arith) (λ k l m. ap not (ne_eqb _ 64 (behind k (omega arith) m))) (λ _. stops) in
+    let tail =
+    suffix_len_is (λ b. not (is_at b)) s (i + 1) 0 (omega arith) (λ k l m. ap not (ne_eqb _ 64 (behind k (omega arith) m))) (λ _. stops) in
     let place : length s - suffix_len (λ b. not (is_at b)) s ≡ i + 1 = omega (arith, tail) in
     let front : length s - suffix_len (λ b. not (is_at b)) s - 1 ≡ i = omega (arith, tail) in
     (list_any_at is_at s i 0 within (eq-eqb _ 64 here), ap (λ k. take k s) front, ap (λ k. drop k s) place)
 
 -- where no byte is `@` all of them stand behind it
-pub no_at : (s : List ℕ) → ((k : ℕ) → k < length s → get_or s k 0 ≡ 64 → ⊥) → (list_any is_at s ≡ false) × (after_last is_at s ≡ s)
+pub no_at : (s : List ℕ) → ((k : ℕ) → k < length s → get_or s k 0 ≡ 64 → ⊥)
+    → (list_any is_at s ≡ false) × (after_last is_at s ≡ s)
 no_at s none =
-    let tail = suffix_len_is (λ b. not (is_at b)) s 0 0 (omega arith) (λ k l m. ap not (ne_eqb _ 64 (none k m))) (λ l. absurd (omega arith)) in
+    let tail =
+    suffix_len_is (λ b. not (is_at b)) s 0 0 (omega arith) (λ k l m. ap not (ne_eqb _ 64 (none k m))) (λ l. absurd (omega arith)) in
     let place : length s - suffix_len (λ b. not (is_at b)) s ≡ 0 = omega (arith, tail) in
     (list_any_none is_at s (All-from_get_or (λ b. is_at b ≡ false) s 0 (λ k l. ne_eqb _ 64 (none k l))), ap (λ k. drop k s) place)
 
@@ -53,7 +56,8 @@ length-domain_of : (a : List ℕ) → length (domain_of a) ≤ length a
 length-domain_of a = rw length-map (omega (arith, length-drop (length a - suffix_len (λ b. not (is_at b)) a) a))
 
 -- a domain within the limit is a name by itself
-names : (d : List ℕ) → is_domain d ≡ true → length d ≤ NAME_LIMIT → is_name (record { campaign = None; tenant = None; domain = d }) ≡ true
+names : (d : List ℕ) → is_domain d ≡ true → length d ≤ NAME_LIMIT
+    → is_name (record { campaign = None; tenant = None; domain = d }) ≡ true
 names d is within = rw (is, le-leb (length d) NAME_LIMIT within) refl
 
 -- an address keeps its limit, and its domain may stand in a name
@@ -68,7 +72,8 @@ address_keeps a h =
     (leb-true _ _ within.1, (and_parts (is_domain (domain_of a)) _ routed.1).0)
 
 -- the domain that an address routes by is a name by itself
-pub is_name-domain_of : (a : List ℕ) → is_address a ≡ true → is_name (record { campaign = None; tenant = None; domain = domain_of a }) ≡ true
+pub is_name-domain_of : (a : List ℕ) → is_address a ≡ true
+    → is_name (record { campaign = None; tenant = None; domain = domain_of a }) ≡ true
 is_name-domain_of a h =
     let keeps = address_keeps a h in
     names (domain_of a) keeps.1 (omega (arith, keeps.0, length-domain_of a))

@@ -7,7 +7,7 @@ ghost use Rattle.queue_name.specs.NameText.{is_bad, is_colon, is_exclamation, is
 
 use crate::name::{NAME_LIMIT, QueueName};
 use crate::parts::NameParts;
-use kumo_base::Memory;
+use kumo_base::{Memory, around_first};
 use std::alloc::Global;
 
 /// Why a text is not read as a name. Places count bytes from 0.
@@ -126,7 +126,7 @@ fn is_capital(byte: u8) -> bool
 fn components(text: &str) -> NameParts<'_>
     ensures { components text.now ≡ name_of result }
 {
-    match around_at(text) {
+    match around_first(text, '@') {
         Some((front, domain)) => components_around_at(front, domain),
         None => NameParts {
             campaign: None,
@@ -140,7 +140,7 @@ fn components(text: &str) -> NameParts<'_>
 fn components_around_at<'a>(front: &'a str, domain: &'a str) -> NameParts<'a>
     ensures { components_around_at front.now domain.now (list_any is_colon front.now) ≡ name_of result }
 {
-    match around_colon(front) {
+    match around_first(front, ':') {
         Some((campaign, tenant)) => NameParts {
             campaign: Some(campaign),
             tenant: if_any(tenant),
@@ -152,26 +152,6 @@ fn components_around_at<'a>(front: &'a str, domain: &'a str) -> NameParts<'a>
             domain,
         },
     }
-}
-
-/// What stands before and behind the first `@`.
-fn around_at(text: &str) -> Option<(&str, &str)>
-    ensures { MatchOption result (list_any is_at text.now ≡ false)
-        (λ p. (list_any is_at text.now ≡ true)
-        × (before_first is_at text.now ≡ p.0.now)
-        × (after_first is_at text.now ≡ p.1.now)) }
-{
-    text.split_once('@')
-}
-
-/// What stands before and behind the first `:`.
-fn around_colon(text: &str) -> Option<(&str, &str)>
-    ensures { MatchOption result (list_any is_colon text.now ≡ false)
-        (λ p. (list_any is_colon text.now ≡ true)
-        × (before_first is_colon text.now ≡ p.0.now)
-        × (after_first is_colon text.now ≡ p.1.now)) }
-{
-    text.split_once(':')
 }
 
 /// A component, where it is not empty.

@@ -17,7 +17,8 @@ returns-then-not-takes c =
 pub loop-option-preserved : goal.loop-option-preserved
 loop-option-preserved c =
     let names = names_of c.args.verb in
-    c.loop-option.invariant ∙ allowed_more names c.loop-option.rest.now _ c.in-Some.ensures (sym c.if-not-takes.ensures) (is_given_as _ _ _ c.value_of.ensures c.if-is_some.ensures)
+    c.loop-option.invariant
+    ∙ allowed_more names c.loop-option.rest.now _ c.in-Some.ensures (sym c.if-not-takes.ensures) (is_given_as _ _ _ c.value_of.ensures c.if-is_some.ensures)
 
 pub returns : goal.returns
 returns c = sym (c.loop-option.invariant ∙ allowed_none (names_of c.args.verb) c.loop-option.rest.now c.in_default.ensures)
