@@ -28,7 +28,9 @@ same_behind : (name : Option (List ℕ)) (words : List (List ℕ)) → Same (opt
 same_behind None [] = refl
 same_behind (Some name) [] = tt
 same_behind None (word ∷ more) =
-    same_by (has_equals word) _ _ _ _ (same_before (before_first is_equals word) (after_first is_equals word) _ _ (same_behind None more)) (same_behind (Some word) more)
+    same_by (has_equals word) _ _ _ _
+    (same_before (before_first is_equals word) (after_first is_equals word) _ _ (same_behind None more))
+    (same_behind (Some word) more)
 same_behind (Some name) (word ∷ more) = same_by (is_value word) _ None _ [] (same_before name word _ _ (same_behind None more)) tt
 
 then_same : (f : List Given → Option Command) (o : Option (List Given)) (given : List Given) → Same o given
@@ -47,8 +49,14 @@ abbrev pub by_verb : Verb → List Given → Option Command
 by_verb v os = if_allowed (names_of v) os (command_by v os)
 
 by_tests : (os : List Given) (a b c d e f : Bool)
-    → cond a (by_verb verb.Check os) (cond b (by_verb verb.Explain os) (cond c (by_verb verb.Spool os) (cond d (by_verb verb.Send os) (cond e (by_verb verb.Crew os) (cond f (by_verb verb.Load os) None)))))
-    ≡ option_and_then (λ v. by_verb v os) (cond a (Some verb.Check) (cond b (Some verb.Explain) (cond c (Some verb.Spool) (cond d (Some verb.Send) (cond e (Some verb.Crew) (cond f (Some verb.Load) None))))))
+    → cond a (by_verb verb.Check os)
+    (cond b (by_verb verb.Explain os)
+    (cond c (by_verb verb.Spool os)
+    (cond d (by_verb verb.Send os) (cond e (by_verb verb.Crew os) (cond f (by_verb verb.Load os) None)))))
+    ≡ option_and_then (λ v. by_verb v os)
+    (cond a (Some verb.Check)
+    (cond b (Some verb.Explain)
+    (cond c (Some verb.Spool) (cond d (Some verb.Send) (cond e (Some verb.Crew) (cond f (Some verb.Load) None))))))
 by_tests os true b c d e f = refl
 by_tests os false true c d e f = refl
 by_tests os false false true d e f = refl
@@ -60,7 +68,8 @@ by_tests os false false false false false false = refl
 with_word : (word : List ℕ) (os : List Given) → command_with word os ≡ option_and_then (λ v. by_verb v os) (verb_of word)
 unfolding command_with
 with_word word os =
-    by_tests os (bytes_eq word (codes "check")) (bytes_eq word (codes "explain")) (bytes_eq word (codes "spool")) (bytes_eq word (codes "send")) (bytes_eq word (codes "crew")) (bytes_eq word (codes "load"))
+    by_tests os (bytes_eq word (codes "check")) (bytes_eq word (codes "explain")) (bytes_eq word (codes "spool"))
+    (bytes_eq word (codes "send")) (bytes_eq word (codes "crew")) (bytes_eq word (codes "load"))
 
 then_verb : (word : List ℕ) (v : Verb) (o : Option (List Given)) → Some v ≡ verb_of word
     → option_and_then (command_with word) o ≡ option_and_then (by_verb v) o

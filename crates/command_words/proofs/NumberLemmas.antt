@@ -31,4 +31,5 @@ number_past_type least greatest text is fits clause =
     parse_digits own {E = ℕ} 64 text (Err 0) clause parts.1 in
     let past : 2 ^ 64 ≤ digits_value 10 text =
     at_least _ _ (cases_lt (digits_value 10 text) (2 ^ 64)) (λ short. refused (ltb-true 0 (length text) some.0, short)) in
-    rw is (within (digits_value 10 text) (nat_le least (digits_value 10 text)) _ (lt-leb (digits_value 10 text) greatest (omega arith)))
+    rw is (within (digits_value 10 text) (nat_le least (digits_value 10 text)) _
+    (lt-leb (digits_value 10 text) greatest (omega arith)))

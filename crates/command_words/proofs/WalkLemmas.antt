@@ -50,7 +50,8 @@ at_next word [] none = record { given = rw none refl; read = rw none (not_empty 
 at_next word (value ∷ more) none = at_value word value more _ none refl
 
 at_word : (word : List ℕ) (more : List (List ℕ)) (t : Bool) → has_equals word ≡ t
-    → Tells (word ∷ more) (cond t (front_of (before_first is_equals word) (after_first is_equals word) more) (front_behind word more))
+    → Tells (word ∷ more)
+    (cond t (front_of (before_first is_equals word) (after_first is_equals word) more) (front_behind word more))
 unfolding given_in options_in
 at_word word more true test =
     at_equals word (before_first is_equals word) (after_first is_equals word) more (rw test refl) (rw test refl)

@@ -136,7 +136,9 @@ unfolding group
 group_bad whole bytes unit name some is named none =
     let at : unit_milliseconds (take_while is_ascii_alphabetic (behind is_space (behind is_ascii_digit bytes))) ≡ None =
     ap (λ u. unit_milliseconds (take_while is_ascii_alphabetic u)) (sym is) ∙ ap unit_milliseconds (sym named) ∙ none in
-    rw (ne_eqb (prefix_len is_ascii_digit bytes) 0 (λ none. omega arith)) (ap (timed whole (digits_value 10 (take_while is_ascii_digit bytes)) (behind is_space (behind is_ascii_digit bytes))) at ∙ ap (λ u. Err (fault_at whole u BadUnit)) (sym is))
+    rw (ne_eqb (prefix_len is_ascii_digit bytes) 0 (λ none. omega arith))
+    (ap (timed whole (digits_value 10 (take_while is_ascii_digit bytes)) (behind is_space (behind is_ascii_digit bytes))) at
+    ∙ ap (λ u. Err (fault_at whole u BadUnit)) (sym is))
 
 -- a number and a unit
 pub group_is : (whole : ℕ) (bytes unit name rest : List ℕ) (factor : ℕ) → 0 < prefix_len is_ascii_digit bytes
@@ -151,7 +153,8 @@ group_is whole bytes unit name rest factor some is named left found =
     ap (behind is_ascii_alphabetic) (sym is) ∙ sym left in
     let number = digits_value 10 (take_while is_ascii_digit bytes) in
     rw (ne_eqb (prefix_len is_ascii_digit bytes) 0 (λ none. omega arith))
-    (ap (timed whole number (behind is_space (behind is_ascii_digit bytes))) at ∙ ap (λ (r : List ℕ). Ok (record { milliseconds = number * factor; rest = r })) back)
+    (ap (timed whole number (behind is_space (behind is_ascii_digit bytes))) at
+    ∙ ap (λ (r : List ℕ). Ok (record { milliseconds = number * factor; rest = r })) back)
 
 -- a number that its cap leaves within the longest duration is as it was, and one that it does not is too long
 pub within_cap : (sum number capped : ℕ) → capped ≡ min number TOO_LONG → sum + capped ≤ longest → capped ≡ number

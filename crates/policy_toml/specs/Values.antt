@@ -1,5 +1,5 @@
 -- What the values at the keys of a TOML policy file give, or the word by which they are refused.
-use Rattle.std.specs.Prelude.{ℕ, ℤ, pos, negsuc, ◌*◌, nat_le, List, Option, Some, None, option_and_then, Result, Ok, Err, if◌then◌else◌}
+use Rattle.std.specs.Prelude.{ℕ, ℤ, pos, negsuc, ◌*◌, nat_le, List, Option, option_and_then, Result, Ok, Err, if◌then◌else◌}
 use Rattle.toml.specs.Data.{Data, string, integer, Members}
 use Rattle.toml.specs.Parse.{parse_document}
 use Rattle.kumo_base.specs.Duration.{duration_in}

@@ -22,7 +22,8 @@ last_at s i within here behind =
     let stops : not (is_at (get_or s (i + 1 - 1) 0)) ≡ false =
     ap (λ k. not (is_at (get_or s k 0))) {x = i + 1 - 1} {y = i} (omega arith) ∙ ap not (eq-eqb _ 64 here) in
     let tail =
-    suffix_len_is (λ b. not (is_at b)) s (i + 1) 0 (omega arith) (λ k l m. ap not (ne_eqb _ 64 (behind k (omega arith) m))) (λ _. stops) in
+    suffix_len_is (λ b. not (is_at b)) s (i + 1) 0 (omega arith) (λ k l m. ap not (ne_eqb _ 64 (behind k (omega arith) m)))
+    (λ _. stops) in
     let place : length s - suffix_len (λ b. not (is_at b)) s ≡ i + 1 = omega (arith, tail) in
     let front : length s - suffix_len (λ b. not (is_at b)) s - 1 ≡ i = omega (arith, tail) in
     (list_any_at is_at s i 0 within (eq-eqb _ 64 here), ap (λ k. take k s) front, ap (λ k. drop k s) place)
@@ -32,14 +33,18 @@ pub no_at : (s : List ℕ) → ((k : ℕ) → k < length s → get_or s k 0 ≡ 
     → (list_any is_at s ≡ false) × (after_last is_at s ≡ s)
 no_at s none =
     let tail =
-    suffix_len_is (λ b. not (is_at b)) s 0 0 (omega arith) (λ k l m. ap not (ne_eqb _ 64 (none k m))) (λ l. absurd (omega arith)) in
+    suffix_len_is (λ b. not (is_at b)) s 0 0 (omega arith) (λ k l m. ap not (ne_eqb _ 64 (none k m)))
+    (λ l. absurd (omega arith)) in
     let place : length s - suffix_len (λ b. not (is_at b)) s ≡ 0 = omega (arith, tail) in
     (list_any_none is_at s (All-from_get_or (λ b. is_at b ≡ false) s 0 (λ k l. ne_eqb _ 64 (none k l))), ap (λ k. drop k s) place)
 
 -- takes the clause of `rsplit_once` at `@`
 pub around_at_is : (s : List ℕ) (r : Option (Bor (List ℕ) × Bor (List ℕ)))
-    → MatchOption r (RFindsChar 64 s None) (λ x. (i : ℕ) × (j : ℕ) × RFindsChar 64 s (Some (i, j)) × (x.0.now ≡ take i s) × (x.1.now ≡ drop j s) × (i ≤ j) × (length x.0.now ≡ i) × (length x.1.now + j ≡ length s))
-    → MatchOption r ((list_any is_at s ≡ false) × (after_last is_at s ≡ s)) (λ p. (list_any is_at s ≡ true) × (before_last is_at s ≡ p.0.now) × (after_last is_at s ≡ p.1.now))
+    → MatchOption r (RFindsChar 64 s None)
+    (λ x. (i : ℕ) × (j : ℕ) × RFindsChar 64 s (Some (i, j)) × (x.0.now ≡ take i s) × (x.1.now ≡ drop j s) × (i ≤ j)
+    × (length x.0.now ≡ i) × (length x.1.now + j ≡ length s))
+    → MatchOption r ((list_any is_at s ≡ false) × (after_last is_at s ≡ s))
+    (λ p. (list_any is_at s ≡ true) × (before_last is_at s ≡ p.0.now) × (after_last is_at s ≡ p.1.now))
 around_at_is s None h = no_at s (λ k. NoCharPasses-char 64 s k h (omega arith))
 around_at_is s (Some x) h =
     let i = h.0 in
@@ -47,7 +52,8 @@ around_at_is s (Some x) h =
     let next : j ≡ i + 1 = omega (arith, h.2.1.ends, len_utf8_ascii 64 (omega arith)) in
     let behind : (k : ℕ) → i < k → k < length s → get_or s k 0 ≡ 64 → ⊥ = λ k a l e.
     let back : j + (k - j) ≡ k = omega arith in
-    NoCharPasses-char 64 (drop j s) (k - j) h.2.0 (omega arith) (omega (arith, length-drop j s)) (get_or-drop j s (k - j) 0 ∙ ap (λ n. get_or s n 0) back ∙ e) in
+    NoCharPasses-char 64 (drop j s) (k - j) h.2.0 (omega arith) (omega (arith, length-drop j s))
+    (get_or-drop j s (k - j) 0 ∙ ap (λ n. get_or s n 0) back ∙ e) in
     let parts = last_at s i (omega (arith, h.7)) (h.2.1.byte (omega arith)) behind in
     (parts.0, parts.1 ∙ sym h.3, parts.2 ∙ ap (λ n. drop n s) (sym next) ∙ sym h.4)
 

@@ -24,7 +24,8 @@ same_byte b c h = grind (arith, nat_tests)
 
 -- a list that has such a byte is what stands before the first, that byte, and what stands after it
 pub cut : (c : ℕ) (xs : List ℕ) → list_any (λ b. b == c) xs ≡ true
-    → (xs ≡ before_first (λ b. b == c) xs ++ (c ∷ after_first (λ b. b == c) xs)) × (list_any (λ b. b == c) (before_first (λ b. b == c) xs) ≡ false)
+    → (xs ≡ before_first (λ b. b == c) xs ++ (c ∷ after_first (λ b. b == c) xs))
+    × (list_any (λ b. b == c) (before_first (λ b. b == c) xs) ≡ false)
 cut c xs has =
     let within = stands_at c xs _ has refl in
     let here : get_or xs (position_or_len (λ b. b == c) xs) 0 ≡ c = same_byte _ c (passes_at_first (λ b. b == c) xs 0 within) in
@@ -67,7 +68,8 @@ place_at c (x ∷ xs) ys none =
 
 -- the first byte of a value stands behind what has none
 pub cut_is : (c : ℕ) (xs ys : List ℕ) → list_any (λ b. b == c) xs ≡ false
-    → (before_first (λ b. b == c) (xs ++ (c ∷ ys)) ≡ xs) × (after_first (λ b. b == c) (xs ++ (c ∷ ys)) ≡ ys) × (list_any (λ b. b == c) (xs ++ (c ∷ ys)) ≡ true)
+    → (before_first (λ b. b == c) (xs ++ (c ∷ ys)) ≡ xs) × (after_first (λ b. b == c) (xs ++ (c ∷ ys)) ≡ ys)
+    × (list_any (λ b. b == c) (xs ++ (c ∷ ys)) ≡ true)
 cut_is c xs ys none =
     let at = place_at c xs ys none in (
       ap (λ n. take n (xs ++ (c ∷ ys))) at ∙ take_at xs (c ∷ ys) (length xs) refl,

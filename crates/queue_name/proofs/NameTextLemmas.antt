@@ -20,7 +20,8 @@ goes_on_by false n o h = (refl, h)
 -- what is wrong with a byte
 abbrev Fine : List ℕ → ℕ → List ℕ → Type 0
 Fine before b after =
-    (is_control b ≡ false) × (is_second_at before b ≡ false) × (is_stray_colon before b after ≡ false) × (is_capital_in_domain before b after ≡ false)
+    (is_control b ≡ false) × (is_second_at before b ≡ false) × (is_stray_colon before b after ≡ false)
+    × (is_capital_in_domain before b after ≡ false)
 
 fine_by : (p q r s : Bool) → (p || q || r || s) ≡ false → (p ≡ false) × (q ≡ false) × (r ≡ false) × (s ≡ false)
 fine_by false false false false h = (refl, refl, refl, refl)
@@ -33,8 +34,11 @@ fine_by false false false true h = absurd cc
 goes_on : (before : List ℕ) (b : ℕ) (after : List ℕ) → bad_from before (b ∷ after) ≡ None
     → Fine before b after × (bad_from (before ++ b ∷ []) after ≡ None)
 goes_on before b after h =
-    let parts = goes_on_by (is_bad before b after) _ _ h in
-    (fine_by (is_control b) (is_second_at before b) (is_stray_colon before b after) (is_capital_in_domain before b after) parts.0, parts.1)
+    let parts = goes_on_by (is_bad before b after) _ _ h in (
+      fine_by (is_control b) (is_second_at before b) (is_stray_colon before b after)
+          (is_capital_in_domain before b after) parts.0,
+      parts.1,
+    )
 
 first_false : (x y : Bool) → (x && y) ≡ false → y ≡ true → x ≡ false
 first_false true y h is = absurd cc
@@ -124,8 +128,11 @@ Spells n text = (is_name n ≡ true) × (spelling n ≡ text)
 plain_sound : (text : List ℕ) → list_any is_at text ≡ false → list_any is_exclamation text ≡ false → bad_from [] text ≡ None
     → has_empty (components_by text false) ≡ false → length text ≤ NAME_LIMIT → Spells (components_by text false) text
 plain_sound text at mark h empty within =
-    let parts = or_parts _ _ (or_parts _ _ empty).0 in
-    (is_name_by true true (is_domain text) _ refl refl (both _ _ (not_empty text parts.0) (domain_keeps [] text at mark h)) (le-leb _ _ within), refl)
+    let parts = or_parts _ _ (or_parts _ _ empty).0 in (
+      is_name_by true true (is_domain text) _ refl refl (both _ _ (not_empty text parts.0) (domain_keeps [] text at mark h))
+          (le-leb _ _ within),
+      refl,
+    )
 
 -- what stands behind the `@`
 domain_behind : (before domain : List ℕ) → list_any is_exclamation domain ≡ false → bad_from before (64 ∷ domain) ≡ None
@@ -144,7 +151,8 @@ tenant_sound : (front domain : List ℕ) → list_any is_at front ≡ false → 
     → Spells (components_around_at front domain false) (front ++ (64 ∷ domain))
 tenant_sound front domain at colon mark h empty within =
     let marks =
-    or_parts (list_any is_exclamation front) (list_any is_exclamation domain) (sym (list_any-append is_exclamation front (64 ∷ domain)) ∙ mark) in
+    or_parts (list_any is_exclamation front) (list_any is_exclamation domain)
+    (sym (list_any-append is_exclamation front (64 ∷ domain)) ∙ mark) in
     let fronts = front_keeps [] front (64 ∷ domain) at colon marks.0 h in
     let parts = or_parts (length domain == 0 || false) (length front == 0) empty in
     let ends = or_parts (length domain == 0) false parts.0 in (
@@ -173,14 +181,17 @@ campaign_sound : (campaign tenant domain : List ℕ) → list_any is_at (campaig
     → bad_from [] (campaign ++ (58 ∷ (tenant ++ (64 ∷ domain)))) ≡ None
     → has_empty (record { campaign = Some campaign; tenant = if_any tenant; domain = domain }) ≡ false
     → length (campaign ++ (58 ∷ (tenant ++ (64 ∷ domain)))) ≤ NAME_LIMIT
-    → Spells (record { campaign = Some campaign; tenant = if_any tenant; domain = domain }) (campaign ++ (58 ∷ (tenant ++ (64 ∷ domain))))
+    → Spells (record { campaign = Some campaign; tenant = if_any tenant; domain = domain })
+    (campaign ++ (58 ∷ (tenant ++ (64 ∷ domain))))
 campaign_sound campaign tenant domain at colon mark h empty within =
     let ats =
     or_parts (list_any is_at campaign) (list_any is_at tenant) (sym (list_any-append is_at campaign (58 ∷ tenant)) ∙ at) in
     let marks =
-    or_parts (list_any is_exclamation campaign) (list_any is_exclamation (tenant ++ (64 ∷ domain))) (sym (list_any-append is_exclamation campaign (58 ∷ (tenant ++ (64 ∷ domain)))) ∙ mark) in
+    or_parts (list_any is_exclamation campaign) (list_any is_exclamation (tenant ++ (64 ∷ domain)))
+    (sym (list_any-append is_exclamation campaign (58 ∷ (tenant ++ (64 ∷ domain)))) ∙ mark) in
     let marks_behind =
-    or_parts (list_any is_exclamation tenant) (list_any is_exclamation domain) (sym (list_any-append is_exclamation tenant (64 ∷ domain)) ∙ marks.1) in
+    or_parts (list_any is_exclamation tenant) (list_any is_exclamation domain)
+    (sym (list_any-append is_exclamation tenant (64 ∷ domain)) ∙ marks.1) in
     let fronts = front_keeps [] campaign (58 ∷ (tenant ++ (64 ∷ domain))) ats.0 colon marks.0 h in
     let step = (goes_on campaign 58 (tenant ++ (64 ∷ domain)) fronts.1).1 in
     let has : list_any is_colon (campaign ++ 58 ∷ []) ≡ true =
@@ -190,8 +201,10 @@ campaign_sound campaign tenant domain at colon mark h empty within =
     let parts = or_parts (length domain == 0 || length campaign == 0) (is_empty_component (if_any tenant)) empty in
     let ends = or_parts (length domain == 0) (length campaign == 0) parts.0 in
     let same = spelled_is campaign tenant domain in (
-      is_name_by (is_component campaign) (is_optional_component (if_any tenant)) (is_domain domain) _ (both _ _ (not_empty campaign ends.1) fronts.0)
-          (optional_is tenant tenants.0) (both _ _ (not_empty domain ends.0) (domain_behind ((campaign ++ 58 ∷ []) ++ tenant) domain marks_behind.1 tenants.1))
+      is_name_by (is_component campaign) (is_optional_component (if_any tenant)) (is_domain domain) _
+          (both _ _ (not_empty campaign ends.1) fronts.0)
+          (optional_is tenant tenants.0)
+          (both _ _ (not_empty domain ends.0) (domain_behind ((campaign ++ 58 ∷ []) ++ tenant) domain marks_behind.1 tenants.1))
           (ap (λ xs. nat_le (length xs) NAME_LIMIT) same ∙ le-leb _ _ within),
       same,
     )
@@ -212,7 +225,8 @@ around_sound front domain true at colon h =
     let whole : front ++ (64 ∷ domain) ≡ campaign ++ (58 ∷ (tenant ++ (64 ∷ domain))) =
     ap (λ xs. xs ++ (64 ∷ domain)) parts.0 ∙ append_assoc campaign (58 ∷ tenant) (64 ∷ domain) in
     let found =
-    campaign_sound campaign tenant domain (sym (ap (list_any is_at) parts.0) ∙ at) parts.1 (sym (ap (list_any is_exclamation) whole) ∙ h.0)
+    campaign_sound campaign tenant domain (sym (ap (list_any is_at) parts.0) ∙ at) parts.1
+    (sym (ap (list_any is_exclamation) whole) ∙ h.0)
     (sym (ap (bad_from []) whole) ∙ h.1) h.2 (subst (λ xs. length xs ≤ NAME_LIMIT) whole h.3) in
     (found.0, found.1 ∙ sym whole)
 

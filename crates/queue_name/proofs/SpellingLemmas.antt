@@ -78,11 +78,13 @@ front_passed before (b ∷ front) behind at all has h =
     let no_capital : (list_any is_at before || not (list_any is_at (front ++ behind))) ≡ false =
     or_from _ _ at (ap not behind_has) in
     let fine : is_bad before b (front ++ behind) ≡ false =
-    or_from _ _ (or_from _ _ (or_from _ _ first.0 (not_both (is_at b) _ first.1)) (not_both (is_colon b) _ first.2)) (not_second (is_capital b) _ no_capital) in
+    or_from _ _ (or_from _ _ (or_from _ _ first.0 (not_both (is_at b) _ first.1)) (not_both (is_colon b) _ first.2))
+    (not_second (is_capital b) _ no_capital) in
     let at_next : list_any is_at (before ++ b ∷ []) ≡ false =
     list_any-append is_at before (b ∷ []) ∙ or_from _ _ at (or_from _ _ first.1 refl) in
     passed before b (front ++ behind) fine
-    (front_passed (before ++ b ∷ []) front behind at_next parts.1 has (ap (λ xs. bad_from xs behind) (append_assoc before (b ∷ []) front) ∙ h))
+    (front_passed (before ++ b ∷ []) front behind at_next parts.1 has
+    (ap (λ xs. bad_from xs behind) (append_assoc before (b ∷ []) front) ∙ h))
 
 -- the domain is passed
 domain_passed : (before domain : List ℕ) → list_all is_domain_byte domain ≡ true → bad_from before domain ≡ None
@@ -93,7 +95,8 @@ domain_passed before (b ∷ domain) all =
     let first = plain_byte b bytes.0 in
     let capital : is_capital b ≡ false = not_true (is_capital b) bytes.1 in
     let fine : is_bad before b domain ≡ false =
-    or_from _ _ (or_from _ _ (or_from _ _ first.0 (not_both (is_at b) _ first.1)) (not_both (is_colon b) _ first.2)) (not_both (is_capital b) _ capital) in
+    or_from _ _ (or_from _ _ (or_from _ _ first.0 (not_both (is_at b) _ first.1)) (not_both (is_colon b) _ first.2))
+    (not_both (is_capital b) _ capital) in
     passed before b domain fine (domain_passed (before ++ b ∷ []) domain parts.1)
 
 -- the `@` and the domain are passed
@@ -138,7 +141,8 @@ plain_read : (domain : List ℕ) → Domain domain → nat_le (length domain) NA
 plain_read domain h within =
     let marks = plain domain (component_bytes domain h.1) in
     let is : components domain ≡ record { campaign = None; tenant = None; domain = domain } = rw marks.0 refl in
-    read_as domain (record { campaign = None; tenant = None; domain = domain }) is marks.2 (domain_passed [] domain h.1) (or_from _ _ (or_from _ _ (full domain h.0) refl) refl) within
+    read_as domain (record { campaign = None; tenant = None; domain = domain }) is marks.2 (domain_passed [] domain h.1)
+    (or_from _ _ (or_from _ _ (full domain h.0) refl) refl) within
 
 no_mark : (front domain : List ℕ) → list_any is_exclamation front ≡ false → list_all is_domain_byte domain ≡ true
     → list_any is_exclamation (front ++ (64 ∷ domain)) ≡ false
@@ -151,8 +155,10 @@ tenant_read : (tenant domain : List ℕ) → is_component tenant ≡ true → Do
 tenant_read tenant domain t d within =
     let parts = and_parts (nat_lt 0 (length tenant)) (list_all is_component_byte tenant) t in
     let marks = plain tenant parts.1 in
-    read_as (tenant ++ (64 ∷ domain)) (record { campaign = None; tenant = Some tenant; domain = domain }) (components_are tenant domain false marks.0 marks.1)
-    (no_mark tenant domain marks.2 d.1) (front_passed [] tenant (64 ∷ domain) refl parts.1 refl (at_passed tenant domain marks.0 d.1))
+    read_as (tenant ++ (64 ∷ domain)) (record { campaign = None; tenant = Some tenant; domain = domain })
+    (components_are tenant domain false marks.0 marks.1)
+    (no_mark tenant domain marks.2 d.1)
+    (front_passed [] tenant (64 ∷ domain) refl parts.1 refl (at_passed tenant domain marks.0 d.1))
     (or_from _ _ (or_from _ _ (full domain d.0) refl) (full tenant parts.0)) within
 
 if_any_full : (tenant : List ℕ) → is_empty_component (if_any tenant) ≡ false
@@ -196,9 +202,11 @@ campaign_read campaign tenant domain c t d within =
     let at_tenant : list_any is_at ((campaign ++ 58 ∷ []) ++ tenant) ≡ false =
     list_any-append is_at (campaign ++ 58 ∷ []) tenant ∙ or_from _ _ at_colon marks_behind.0 in
     let behind =
-    front_passed (campaign ++ 58 ∷ []) tenant (64 ∷ domain) at_colon t refl (at_passed ((campaign ++ 58 ∷ []) ++ tenant) domain at_tenant d.1) in
+    front_passed (campaign ++ 58 ∷ []) tenant (64 ∷ domain) at_colon t refl
+    (at_passed ((campaign ++ 58 ∷ []) ++ tenant) domain at_tenant d.1) in
     let bad =
-    front_passed [] campaign (58 ∷ (tenant ++ (64 ∷ domain))) refl parts.1 has (colon_passed campaign (tenant ++ (64 ∷ domain)) marks.1 has behind) in
+    front_passed [] campaign (58 ∷ (tenant ++ (64 ∷ domain))) refl parts.1 has
+    (colon_passed campaign (tenant ++ (64 ∷ domain)) marks.1 has behind) in
     read_as (campaign ++ (58 ∷ (tenant ++ (64 ∷ domain)))) n is
     (ap (list_any is_exclamation) whole ∙ no_mark (campaign ++ (58 ∷ tenant)) domain mark d.1) bad
     (or_from _ _ (or_from _ _ (full domain d.0) (full campaign parts.0)) (if_any_full tenant)) within
@@ -223,14 +231,16 @@ read_by (Some campaign) None domain h =
     let ends = and_parts _ (nat_le (length (campaign ++ (58 ∷ (64 ∷ domain)))) NAME_LIMIT) h in
     let domains = and_parts _ (is_domain domain) ends.0 in
     let campaigns = and_parts (is_component campaign) true domains.0 in
-    campaign_read campaign [] domain campaigns.0 refl (and_parts (nat_lt 0 (length domain)) (list_all is_domain_byte domain) domains.1) ends.1
+    campaign_read campaign [] domain campaigns.0 refl
+    (and_parts (nat_lt 0 (length domain)) (list_all is_domain_byte domain) domains.1) ends.1
 read_by (Some campaign) (Some tenant) domain h =
     let ends = and_parts _ (nat_le (length (campaign ++ (58 ∷ (tenant ++ (64 ∷ domain))))) NAME_LIMIT) h in
     let domains = and_parts _ (is_domain domain) ends.0 in
     let both = and_parts (is_component campaign) (is_component tenant) domains.0 in
     let bytes = and_parts (nat_lt 0 (length tenant)) (list_all is_component_byte tenant) both.1 in
     let read =
-    campaign_read campaign tenant domain both.0 bytes.1 (and_parts (nat_lt 0 (length domain)) (list_all is_domain_byte domain) domains.1) ends.1 in
+    campaign_read campaign tenant domain both.0 bytes.1
+    (and_parts (nat_lt 0 (length domain)) (list_all is_domain_byte domain) domains.1) ends.1 in
     read ∙ ap (λ t. Ok (record { campaign = Some campaign; tenant = t; domain = domain })) (if_any_is tenant both.1)
 
 -- the spelling of a name is read as that name

@@ -54,4 +54,5 @@ returns-in-None-clause-value c =
     c.split_at-2.ensures.front ∙ ap (λ n. take n c.without_spaces-unit.result.now) c.letters_in_front.ensures.value in
     let some : 0 < prefix_len is_ascii_digit bytes =
     omega (arith, c.digits_in_front.ensures.value, c.split_at.ensures.front_len, is_some _ c.if-is_empty.ensures) in
-    group_bad c.args.whole bytes c.without_spaces-unit.result.now c.split_at-2.result.0.now some unit name (sym c.in-None.ensures.value) ∙ ap Err (sym c.fault_at-in-None.ensures)
+    group_bad c.args.whole bytes c.without_spaces-unit.result.now c.split_at-2.result.0.now some unit name
+    (sym c.in-None.ensures.value) ∙ ap Err (sym c.fault_at-in-None.ensures)
