@@ -1,4 +1,3 @@
-pub mod NameLemmas
 pub mod NumberLemmas
 pub mod WalkLemmas
 pub mod CommandLemmas

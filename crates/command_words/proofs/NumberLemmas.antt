@@ -21,12 +21,15 @@ at_least m n (inr above) refused = above
 
 -- takes the clause of `parse` at an error
 pub number_past_type : (least greatest : ℕ) (text : List ℕ) → is_number text ≡ true → greatest < 2 ^ 64
-    → ¬ (IsNumeral 10 (without_leading_plus text) × (digits_value 10 (without_leading_plus text) < 2 ^ 64)) → None ≡ number_in least greatest text
+    → ¬ (IsNumeral 10 (without_leading_plus text) × (digits_value 10 (without_leading_plus text) < 2 ^ 64))
+    → None ≡ number_in least greatest text
 unfolding number_in
 number_past_type least greatest text is fits clause =
     let parts = and_parts (nat_lt 0 (length text) && nat_le (length text) 20) (list_all is_ascii_digit text) is in
     let some = and_parts (nat_lt 0 (length text)) (nat_le (length text) 20) parts.0 in
-    let refused : ¬ ((0 < length text) × (digits_value 10 text < 2 ^ 64)) = parse_digits own {E = ℕ} 64 text (Err 0) clause parts.1 in
+    let refused : ¬ ((0 < length text) × (digits_value 10 text < 2 ^ 64)) =
+    parse_digits own {E = ℕ} 64 text (Err 0) clause parts.1 in
     let past : 2 ^ 64 ≤ digits_value 10 text =
     at_least _ _ (cases_lt (digits_value 10 text) (2 ^ 64)) (λ short. refused (ltb-true 0 (length text) some.0, short)) in
-    rw is (within (digits_value 10 text) (nat_le least (digits_value 10 text)) _ (lt-leb (digits_value 10 text) greatest (omega arith)))
+    rw is (within (digits_value 10 text) (nat_le least (digits_value 10 text)) _
+    (lt-leb (digits_value 10 text) greatest (omega arith)))

@@ -1,7 +1,6 @@
 -- The words that are a command, and which one.
 use Rattle.std.specs.Prelude.{ℕ, ◌-◌, ◌^◌, List, [], ◌∷◌, ◌++◌, Option, Some, None, unwrap_or, option_map, option_and_then, if◌then◌else◌, bytes_eq, codes, IsTrue, ⊤}
-use Rattle.std.specs.Str.{str_to_ascii_lowercase}
-use Rattle.queue_name.specs.QueueName.{Name, is_name}
+use Rattle.queue_name.specs.QueueName.{Name, is_name, in_lower_case}
 use Rattle.kumo_base.specs.Limits.{latest_moment}
 use Rattle.policy_core.specs.Limits.{unspecified}
 use Rattle.command_words.specs.Limits.{greatest_workers, greatest_load}
@@ -42,13 +41,18 @@ pub data Command : Type 0 where
 abbrev pub names_of_texts : List (List ℕ)
 names_of_texts = codes "--sources" ∷ codes "--queues" ∷ codes "--shaping" ∷ codes "--mx" ∷ []
 
+abbrev pub names_of_name : List (List ℕ)
+names_of_name = codes "--domain" ∷ codes "--tenant" ∷ codes "--campaign" ∷ codes "--source" ∷ []
+
 abbrev pub names_of_question : List (List ℕ)
-names_of_question = names_of_texts ++ codes "--domain" ∷ codes "--tenant" ∷ codes "--campaign" ∷ codes "--source" ∷ []
+names_of_question = names_of_texts ++ names_of_name
+
+abbrev pub names_of_mail : List (List ℕ)
+names_of_mail =
+    codes "--mail" ∷ codes "--peers" ∷ codes "--orders" ∷ codes "--until" ∷ codes "--start" ∷ codes "--spool" ∷ []
 
 abbrev pub names_of_sending : List (List ℕ)
-names_of_sending =
-    names_of_texts
-    ++ codes "--mail" ∷ codes "--peers" ∷ codes "--orders" ∷ codes "--until" ∷ codes "--start" ∷ codes "--spool" ∷ []
+names_of_sending = names_of_texts ++ names_of_mail
 
 abbrev pub names_of_crew : List (List ℕ)
 names_of_crew = names_of_sending ++ codes "--workers" ∷ []
@@ -67,14 +71,18 @@ texts_of os = record {
 
 -- the domain counts in lower case
 abbrev pub name_asked : List Given → List ℕ → Name
-name_asked os domain = record {
+name_asked os domain = in_lower_case (record {
   campaign = value_of (codes "--campaign") os;
   tenant = value_of (codes "--tenant") os;
-  domain = str_to_ascii_lowercase domain;
-}
+  domain = domain;
+})
 
 abbrev pub question_about : List Given → Name → Question
-question_about os name = record { texts = texts_of os; name = name; source = unwrap_or (value_of (codes "--source") os) unspecified }
+question_about os name = record {
+  texts = texts_of os;
+  name = name;
+  source = unwrap_or (value_of (codes "--source") os) unspecified;
+}
 
 abbrev pub question_if_name : List Given → Name → Option Command
 question_if_name os name = if is_name name then Some (explain (question_about os name)) else None
@@ -109,7 +117,8 @@ workers_in os = option_and_then (number_in 1 greatest_workers) (value_of (codes 
 
 unfoldable pub load_in : List Given → Option Command
 load_in os =
-    option_and_then (λ seed. option_map (load seed) (option_and_then (number_in 1 greatest_load) (value_of (codes "--count") os)))
+    option_and_then (λ seed.
+    option_map (load seed) (option_and_then (number_in 1 greatest_load) (value_of (codes "--count") os)))
     (option_and_then (number_in 0 (2 ^ 64 - 1)) (value_of (codes "--seed") os))
 
 unfoldable pub question_in : List Given → Option Command

@@ -1,6 +1,7 @@
 -- What commands of the program say.
 use Rattle.std.specs.Prelude.{option_map}
-use Rattle.std.specs.Str.{str_to_ascii_lowercase}
+use Rattle.queue_name.specs.QueueName.{in_lower_case}
+use Rattle.queue_name.specs.NameParts.{name_of}
 use Rattle.command_words.specs.declared.names.PolicyNames.{PolicyNames}
 use Rattle.command_words.specs.declared.command.Asked.{Asked}
 use Rattle.command_words.specs.declared.command.Sending.{Sending as SendingWords}
@@ -20,11 +21,7 @@ seen_names n = record {
 abbrev pub seen_question : Asked → Question
 seen_question a = record {
   texts = seen_names a.texts;
-  name = record {
-    campaign = option_map (λ s. s.now) a.campaign;
-    tenant = option_map (λ s. s.now) a.tenant;
-    domain = str_to_ascii_lowercase a.domain.now;
-  };
+  name = in_lower_case (name_of a.parts);
   source = a.source.now;
 }
 

@@ -16,13 +16,7 @@ verb_of word =
     else if bytes_eq word (codes "load") then Some verb.Load
     else None
 
--- the names that `explain` and `send` take beside those of policy texts
-abbrev pub names_of_name : List (List ℕ)
-names_of_name = codes "--domain" ∷ codes "--tenant" ∷ codes "--campaign" ∷ codes "--source" ∷ []
-
-abbrev pub names_of_mail : List (List ℕ)
-names_of_mail = codes "--mail" ∷ codes "--peers" ∷ codes "--orders" ∷ codes "--until" ∷ codes "--start" ∷ codes "--spool" ∷ []
-
+-- the options that each command takes
 abbrev pub names_of : Verb → List (List ℕ)
 names_of verb.Check = names_of_texts
 names_of verb.Explain = names_of_question

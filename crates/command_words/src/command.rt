@@ -7,24 +7,21 @@ ghost use Rattle.command_words.specs.Walk.{given_in};
 ghost use Rattle.command_words.specs.Verbs.{names_of, command_by};
 ghost use Rattle.command_words.specs.Options.{options_in, number_in};
 
-use crate::asked_name::may_name;
 use crate::names::PolicyNames;
 use crate::numbers::{GREATEST_LOAD, GREATEST_WORKERS, number_in};
 use crate::options::{are_allowed, are_read, value_of};
 use crate::verb::Verb;
 use kumo_base::{LAST_MOMENT, Memory, Text};
 use policy_core::UNSPECIFIED;
-use queue_name::QueueName;
+use queue_name::{NameParts, QueueName};
 use std::alloc::Global;
 
 /// What is asked about a queue's name and a source.
 #[derive(Clone, Copy)]
 pub struct Asked<'a> {
     pub texts: PolicyNames<'a>,
-    /// As it was written; it counts in lower case.
-    pub domain: &'a str,
-    pub tenant: Option<&'a str>,
-    pub campaign: Option<&'a str>,
+    /// The parts of the queue's name. The domain is as it was written; it counts in lower case.
+    pub parts: NameParts<'a>,
     /// `unspecified` where none is given. Nothing says that there is such a source.
     pub source: &'a str,
 }
@@ -70,21 +67,12 @@ impl<'a> Asked<'a> {
         requires { IsTrue (is_name (seen_question self.now).name) }
         ensures { IfOk result (λ name. name ≡ (seen_question self.now).name) }
     {
-        Ok(QueueName {
-            campaign: text_of(alloc, self.campaign)?,
-            tenant: text_of(alloc, self.tenant)?,
-            domain: Text::of_string(self.domain.to_ascii_lowercase(alloc)?),
-        })
-    }
-}
-
-/// A component as a text of its own, where it is given.
-fn text_of(alloc: Global, component: Option<&str>) -> Result<Option<Text>, Memory>
-    ensures { IfOk result (λ text. text ≡ option_map (λ s. s.now) component.entry) }
-{
-    match component {
-        Some(component) => Ok(Some(Text::of(alloc, component)?)),
-        None => Ok(None),
+        let domain = self.parts.domain.to_ascii_lowercase(alloc)?;
+        let parts = NameParts {
+            domain: domain.as_str(),
+            ..self.parts
+        };
+        parts.to_name(alloc)
     }
 }
 
@@ -119,7 +107,8 @@ pub fn command_of(words: &[Text]) -> Option<Command<'_>>
 /// The command of a verb and of words that should be options which it takes.
 #[tactic(auto, using(crate::proofs::CommandLemmas::then_read))]
 fn command_with(verb: Verb, options: &[Text]) -> Option<Command<'_>>
-    ensures command { option_map read_as result ≡ option_and_then (λ os. if_allowed (names_of verb) os (command_by verb os)) (options_in options.now) }
+    ensures command { option_map read_as result
+        ≡ option_and_then (λ os. if_allowed (names_of verb) os (command_by verb os)) (options_in options.now) }
     ensures named { IfSome result (λ command. IsNamed (read_as command)) }
 {
     if are_read(options) && are_allowed(verb, options) {
@@ -165,7 +154,7 @@ fn question_in(options: &[Text]) -> Option<Command<'_>>
     match value_of(options, "--domain") {
         Some(domain) => {
             let asked = asked_of(options, domain);
-            if may_name(asked.campaign, asked.tenant, domain) {
+            if asked.parts.is_name_in_lower_case() {
                 Some(Command::Explain(asked))
             } else {
                 None
@@ -181,9 +170,11 @@ fn asked_of<'a>(options: &'a [Text], domain: &'a str) -> Asked<'a>
 {
     Asked {
         texts: texts_of(options),
-        domain,
-        tenant: value_of(options, "--tenant"),
-        campaign: value_of(options, "--campaign"),
+        parts: NameParts {
+            campaign: value_of(options, "--campaign"),
+            tenant: value_of(options, "--tenant"),
+            domain,
+        },
         source: value_of(options, "--source").unwrap_or(UNSPECIFIED),
     }
 }

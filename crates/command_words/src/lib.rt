@@ -4,11 +4,10 @@
 //! is not empty, and as a word of its own it does not begin with `-`. Everything else is no command.
 //!
 //! `options.rt` reads options out of words, `verb.rt` says which options each command takes, `numbers.rt` reads the numbers
-//! among their values, and `asked_name.rt` tells whether the parts of a question make a queue's name; `command.rt` has the
-//! commands. Nothing here takes memory but the name of a queue that a question is about.
+//! among their values, and `command.rt` has the commands. Nothing here takes memory but the name of a queue that a question
+//! is about.
 #![tactic(auto)]
 
-mod asked_name;
 mod command;
 pub mod laws;
 mod names;

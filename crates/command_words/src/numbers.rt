@@ -4,6 +4,8 @@ ghost use Rattle.std.specs.List.{list_all};
 ghost use Rattle.std.specs.Char.{is_ascii_digit};
 ghost use Rattle.command_words.specs.Options.{is_number, in_range, number_in};
 
+use kumo_base::all_digits;
+
 /// The most workers of a crew. The least is 1.
 pub const GREATEST_WORKERS: u32 = 64;
 
@@ -33,13 +35,6 @@ fn is_number(text: &str) -> bool
     ensures { result ≡ is_number text.now }
 {
     !text.is_empty() && text.len() <= MOST_DIGITS && all_digits(text.as_bytes())
-}
-
-/// Whether all bytes are digits.
-fn all_digits(bytes: &[u8]) -> bool
-    ensures { result ≡ list_all is_ascii_digit bytes.now }
-{
-    bytes.iter().all(|b| b.is_ascii_digit())
 }
 
 /// A number, where it is in a range.

@@ -7,7 +7,7 @@ ghost use Rattle.command_words.specs.Verbs.{names_of};
 ghost use Rattle.command_words.specs.Seen.{seen_front};
 
 use crate::verb::Verb;
-use kumo_base::Text;
+use kumo_base::{Text, around_first};
 
 /// An option.
 #[derive(Clone, Copy)]
@@ -65,19 +65,11 @@ fn first_option(words: &[Text]) -> Option<(Given<'_>, &[Text])>
 {
     match words {
         [] => None,
-        [word, rest @ ..] => match around_equals(word.as_str()) {
+        [word, rest @ ..] => match around_first(word.as_str(), '=') {
             Some((name, value)) => with_value(name, value, rest),
             None => with_next(word.as_str(), rest),
         },
     }
-}
-
-/// What stands before and behind the first `=`.
-fn around_equals(word: &str) -> Option<(&str, &str)>
-    ensures { MatchOption result (list_any is_equals word.now ≡ false)
-        (λ p. (list_any is_equals word.now ≡ true) × (before_first is_equals word.now ≡ p.0.now) × (after_first is_equals word.now ≡ p.1.now)) }
-{
-    word.split_once('=')
 }
 
 /// An option whose value is the next word.

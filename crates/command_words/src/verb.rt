@@ -1,8 +1,8 @@
 //! The first words of commands, and the options that each takes.
 ghost use Rattle.std.specs.Prelude.{◌≡◌, bytes_eq};
 ghost use Rattle.std.specs.List.{list_any};
-ghost use Rattle.command_words.specs.Commands.{names_of_texts};
-ghost use Rattle.command_words.specs.Verbs.{names_of, names_of_name, names_of_mail, verb_of};
+ghost use Rattle.command_words.specs.Commands.{names_of_texts, names_of_name, names_of_mail};
+ghost use Rattle.command_words.specs.Verbs.{names_of, verb_of};
 
 /// What a command begins with.
 #[derive(Clone, Copy)]

@@ -40,7 +40,8 @@ groups_end zero whole sum rest none = refl
 groups_end (suc steps) whole sum rest none = rw none refl
 
 -- behind the last group
-pub reads_end : (text : List ℕ) (whole sum : ℕ) (rest : List ℕ) → ReadsOn text whole sum rest → length rest ≡ 0 → duration_in text ≡ Ok sum
+pub reads_end : (text : List ℕ) (whole sum : ℕ) (rest : List ℕ) → ReadsOn text whole sum rest → length rest ≡ 0
+    → duration_in text ≡ Ok sum
 reads_end text whole sum rest on none = on.same ∙ groups_end on.steps whole sum rest none
 
 groups_fault : (steps whole sum : ℕ) (rest : List ℕ) (fault : DurationFault) → length rest ≤ steps → 0 < length rest
@@ -50,21 +51,25 @@ groups_fault zero whole sum rest fault enough some is = absurd (omega arith)
 groups_fault (suc steps) whole sum rest fault enough some is = rw (ne_eqb (length rest) 0 (λ none. omega arith), is) refl
 
 -- where a group is wrong
-pub reads_fault : (text : List ℕ) (whole sum : ℕ) (rest : List ℕ) (fault : DurationFault) → ReadsOn text whole sum rest → 0 < length rest
+pub reads_fault : (text : List ℕ) (whole sum : ℕ) (rest : List ℕ) (fault : DurationFault) → ReadsOn text whole sum rest
+    → 0 < length rest
     → group whole rest ≡ Err fault → duration_in text ≡ Err fault
 reads_fault text whole sum rest fault on some is = on.same ∙ groups_fault on.steps whole sum rest fault on.enough some is
 
 groups_too_long : (steps whole sum : ℕ) (rest : List ℕ) (found : Group) → length rest ≤ steps → 0 < length rest
-    → group whole rest ≡ Ok found → longest < sum + found.milliseconds → groups steps whole sum rest ≡ Err (fault_at whole rest TooLong)
+    → group whole rest ≡ Ok found → longest < sum + found.milliseconds
+    → groups steps whole sum rest ≡ Err (fault_at whole rest TooLong)
 unfolding groups
 groups_too_long zero whole sum rest found enough some is long = absurd (omega arith)
 groups_too_long (suc steps) whole sum rest found enough some is long =
     rw (ne_eqb (length rest) 0 (λ none. omega arith), is, lt-ltb longest (sum + found.milliseconds) long) refl
 
 -- where the sum passes the limit
-pub reads_too_long : (text : List ℕ) (whole sum : ℕ) (rest : List ℕ) (found : Group) → ReadsOn text whole sum rest → 0 < length rest
+pub reads_too_long : (text : List ℕ) (whole sum : ℕ) (rest : List ℕ) (found : Group) → ReadsOn text whole sum rest
+    → 0 < length rest
     → group whole rest ≡ Ok found → longest < sum + found.milliseconds → duration_in text ≡ Err (fault_at whole rest TooLong)
-reads_too_long text whole sum rest found on some is long = on.same ∙ groups_too_long on.steps whole sum rest found on.enough some is long
+reads_too_long text whole sum rest found on some is long =
+    on.same ∙ groups_too_long on.steps whole sum rest found on.enough some is long
 
 groups_more : (text : List ℕ) (steps whole sum : ℕ) (rest : List ℕ) (found : Group) → length rest ≤ steps → 0 < length rest
     → duration_in text ≡ groups steps whole sum rest → group whole rest ≡ Ok found → sum + found.milliseconds ≤ longest
@@ -102,7 +107,8 @@ capped_product number factor cap some =
     grind arith
 
 -- the digits in front are digits
-pub digits_in_front : (bytes : List ℕ) (k : ℕ) → k < prefix_len is_ascii_digit bytes → IsAsciiDigit (get_or (take (prefix_len is_ascii_digit bytes) bytes) k 0)
+pub digits_in_front : (bytes : List ℕ) (k : ℕ) → k < prefix_len is_ascii_digit bytes
+    → IsAsciiDigit (get_or (take (prefix_len is_ascii_digit bytes) bytes) k 0)
 digits_in_front bytes k below =
     let parts = and_parts _ _ (prefix_len_passes is_ascii_digit bytes k 0 below) in
     rw (get_or-take (prefix_len is_ascii_digit bytes) bytes k 0 below) (leb-true _ _ parts.0, leb-true _ _ parts.1)
@@ -116,31 +122,39 @@ is_some zero h = absurd cc
 is_some (suc n) h = omega arith
 
 -- no digit in front
-pub group_none : (whole : ℕ) (bytes : List ℕ) → prefix_len is_ascii_digit bytes ≡ 0 → group whole bytes ≡ Err (fault_at whole bytes NoNumber)
+pub group_none : (whole : ℕ) (bytes : List ℕ) → prefix_len is_ascii_digit bytes ≡ 0
+    → group whole bytes ≡ Err (fault_at whole bytes NoNumber)
 unfolding group
 group_none whole bytes none = rw none refl
 
 -- no unit that is known
-pub group_bad : (whole : ℕ) (bytes unit name : List ℕ) → 0 < prefix_len is_ascii_digit bytes → unit ≡ behind is_space (behind is_ascii_digit bytes)
-    → name ≡ take_while is_ascii_alphabetic unit → unit_milliseconds name ≡ None → group whole bytes ≡ Err (fault_at whole unit BadUnit)
+pub group_bad : (whole : ℕ) (bytes unit name : List ℕ) → 0 < prefix_len is_ascii_digit bytes
+    → unit ≡ behind is_space (behind is_ascii_digit bytes)
+    → name ≡ take_while is_ascii_alphabetic unit → unit_milliseconds name ≡ None
+    → group whole bytes ≡ Err (fault_at whole unit BadUnit)
 unfolding group
 group_bad whole bytes unit name some is named none =
     let at : unit_milliseconds (take_while is_ascii_alphabetic (behind is_space (behind is_ascii_digit bytes))) ≡ None =
     ap (λ u. unit_milliseconds (take_while is_ascii_alphabetic u)) (sym is) ∙ ap unit_milliseconds (sym named) ∙ none in
-    rw (ne_eqb (prefix_len is_ascii_digit bytes) 0 (λ none. omega arith)) (ap (timed whole (digits_value 10 (take_while is_ascii_digit bytes)) (behind is_space (behind is_ascii_digit bytes))) at ∙ ap (λ u. Err (fault_at whole u BadUnit)) (sym is))
+    rw (ne_eqb (prefix_len is_ascii_digit bytes) 0 (λ none. omega arith))
+    (ap (timed whole (digits_value 10 (take_while is_ascii_digit bytes)) (behind is_space (behind is_ascii_digit bytes))) at
+    ∙ ap (λ u. Err (fault_at whole u BadUnit)) (sym is))
 
 -- a number and a unit
-pub group_is : (whole : ℕ) (bytes unit name rest : List ℕ) (factor : ℕ) → 0 < prefix_len is_ascii_digit bytes → unit ≡ behind is_space (behind is_ascii_digit bytes)
+pub group_is : (whole : ℕ) (bytes unit name rest : List ℕ) (factor : ℕ) → 0 < prefix_len is_ascii_digit bytes
+    → unit ≡ behind is_space (behind is_ascii_digit bytes)
     → name ≡ take_while is_ascii_alphabetic unit → rest ≡ behind is_ascii_alphabetic unit → unit_milliseconds name ≡ Some factor
     → group whole bytes ≡ Ok (record { milliseconds = digits_value 10 (take_while is_ascii_digit bytes) * factor; rest = rest })
 unfolding group
 group_is whole bytes unit name rest factor some is named left found =
     let at : unit_milliseconds (take_while is_ascii_alphabetic (behind is_space (behind is_ascii_digit bytes))) ≡ Some factor =
     ap (λ u. unit_milliseconds (take_while is_ascii_alphabetic u)) (sym is) ∙ ap unit_milliseconds (sym named) ∙ found in
-    let back : behind is_ascii_alphabetic (behind is_space (behind is_ascii_digit bytes)) ≡ rest = ap (behind is_ascii_alphabetic) (sym is) ∙ sym left in
+    let back : behind is_ascii_alphabetic (behind is_space (behind is_ascii_digit bytes)) ≡ rest =
+    ap (behind is_ascii_alphabetic) (sym is) ∙ sym left in
     let number = digits_value 10 (take_while is_ascii_digit bytes) in
     rw (ne_eqb (prefix_len is_ascii_digit bytes) 0 (λ none. omega arith))
-    (ap (timed whole number (behind is_space (behind is_ascii_digit bytes))) at ∙ ap (λ (r : List ℕ). Ok (record { milliseconds = number * factor; rest = r })) back)
+    (ap (timed whole number (behind is_space (behind is_ascii_digit bytes))) at
+    ∙ ap (λ (r : List ℕ). Ok (record { milliseconds = number * factor; rest = r })) back)
 
 -- a number that its cap leaves within the longest duration is as it was, and one that it does not is too long
 pub within_cap : (sum number capped : ℕ) → capped ≡ min number TOO_LONG → sum + capped ≤ longest → capped ≡ number

@@ -1,2 +1,3 @@
 pub mod DurationLemmas
 mod SplitLemmas
+pub mod MarkLemmas

@@ -26,7 +26,8 @@ one_part p xs false test is =
     let past : length xs ≤ position_or_len p xs = grind (arith, nat_tests) in
     slice_split_none p xs (λ k d h. fails_before_first p xs k d (omega arith))
 
-some_part_of : (x : ℕ) (b : Bool) (xs : List (List ℕ)) → (y : List ℕ) × (ys : List (List ℕ)) × (cond b ([] ∷ xs) (onto_first x xs) ≡ y ∷ ys)
+some_part_of : (x : ℕ) (b : Bool) (xs : List (List ℕ))
+    → (y : List ℕ) × (ys : List (List ℕ)) × (cond b ([] ∷ xs) (onto_first x xs) ≡ y ∷ ys)
 some_part_of x true xs = ([], xs, refl)
 some_part_of x false [] = (x ∷ [], [], refl)
 some_part_of x false (z ∷ zs) = (x ∷ z, zs, refl)

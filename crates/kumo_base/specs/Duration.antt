@@ -16,16 +16,24 @@ behind test bytes = drop (prefix_len test bytes) bytes
 
 -- the names of each unit
 unfoldable pub means_milliseconds : List ℕ → Bool
-means_milliseconds name = bytes_eq name (codes "ms") || bytes_eq name (codes "msec") || bytes_eq name (codes "millisecond") || bytes_eq name (codes "milliseconds")
+means_milliseconds name =
+    bytes_eq name (codes "ms") || bytes_eq name (codes "msec") || bytes_eq name (codes "millisecond")
+    || bytes_eq name (codes "milliseconds")
 
 unfoldable pub means_seconds : List ℕ → Bool
-means_seconds name = bytes_eq name (codes "s") || bytes_eq name (codes "sec") || bytes_eq name (codes "secs") || bytes_eq name (codes "second") || bytes_eq name (codes "seconds")
+means_seconds name =
+    bytes_eq name (codes "s") || bytes_eq name (codes "sec") || bytes_eq name (codes "secs")
+    || bytes_eq name (codes "second") || bytes_eq name (codes "seconds")
 
 unfoldable pub means_minutes : List ℕ → Bool
-means_minutes name = bytes_eq name (codes "m") || bytes_eq name (codes "min") || bytes_eq name (codes "mins") || bytes_eq name (codes "minute") || bytes_eq name (codes "minutes")
+means_minutes name =
+    bytes_eq name (codes "m") || bytes_eq name (codes "min") || bytes_eq name (codes "mins")
+    || bytes_eq name (codes "minute") || bytes_eq name (codes "minutes")
 
 unfoldable pub means_hours : List ℕ → Bool
-means_hours name = bytes_eq name (codes "h") || bytes_eq name (codes "hr") || bytes_eq name (codes "hrs") || bytes_eq name (codes "hour") || bytes_eq name (codes "hours")
+means_hours name =
+    bytes_eq name (codes "h") || bytes_eq name (codes "hr") || bytes_eq name (codes "hrs")
+    || bytes_eq name (codes "hour") || bytes_eq name (codes "hours")
 
 unfoldable pub means_days : List ℕ → Bool
 means_days name = bytes_eq name (codes "d") || bytes_eq name (codes "day") || bytes_eq name (codes "days")
@@ -67,7 +75,8 @@ unfoldable pub group : ℕ → List ℕ → Result Group DurationFault
 group whole bytes =
     let unit = behind is_space (behind is_ascii_digit bytes) in
     if prefix_len is_ascii_digit bytes == 0 then Err (fault_at whole bytes NoNumber)
-    else timed whole (digits_value 10 (take_while is_ascii_digit bytes)) unit (unit_milliseconds (take_while is_ascii_alphabetic unit))
+    else timed whole (digits_value 10 (take_while is_ascii_digit bytes)) unit
+    (unit_milliseconds (take_while is_ascii_alphabetic unit))
 
 -- goes on behind a group
 abbrev pub with_group : Result Group DurationFault → (Group → Result ℕ DurationFault) → Result ℕ DurationFault

@@ -3,3 +3,4 @@ pub mod Causes
 pub mod Duration
 pub mod Moment
 pub mod Lines
+pub mod Utf8

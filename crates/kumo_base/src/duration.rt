@@ -68,7 +68,9 @@ pub fn duration_of(text: &str) -> Result<u64, DurationFault>
 fn first_group(bytes: &[u8], whole: usize) -> Result<Group<'_>, DurationFault>
     requires { length bytes.now ≤ whole }
     ensures value { MatchResult result
-        (λ found. (m : ℕ) × (group whole bytes.now ≡ Ok (record { milliseconds = m; rest = found.rest.now })) × (found.milliseconds ≡ min m TOO_LONG))
+        (λ found. (m : ℕ)
+        × (group whole bytes.now ≡ Ok (record { milliseconds = m; rest = found.rest.now }))
+        × (found.milliseconds ≡ min m TOO_LONG))
         (λ fault. group whole bytes.now ≡ Err fault) }
     ensures shorter { IfOk result (λ found. length found.rest.now < length bytes.now) }
 {

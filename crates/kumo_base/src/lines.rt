@@ -35,7 +35,8 @@ impl<'a> Lines<'a> {
 
     /// The next line that is not empty, with its number. After `None` there is none.
     pub fn next_line(&mut self) -> Option<(u64, &'a [u8])>
-        ensures { MatchOption result (left self.old ≡ [] × (left self.new ≡ [])) (λ found. left self.old ≡ (found.0, found.1.now) ∷ left self.new) }
+        ensures { MatchOption result (left self.old ≡ [] × (left self.new ≡ []))
+            (λ found. left self.old ≡ (found.0, found.1.now) ∷ left self.new) }
     {
         while let Some((line, more)) = cut_line(self.rest) {
             let number = self.number;

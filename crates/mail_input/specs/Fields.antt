@@ -1,7 +1,6 @@
 -- What a mail line reads as: its message, or the first word why not. The words are tried in the order of the fields here.
 use Rattle.std.specs.Prelude.{◌≡◌, ℕ, ◌==◌, nat_le, List, Bool, ◌||◌, length, Option, Some, None, Result, Ok, Err, option_and_then, option_map, is_some, if◌then◌else◌, codes, ⊤}
 use Rattle.std.specs.Int.{w128, from_be_bytes}
-use Rattle.std.specs.Str.{is_utf8}
 use Rattle.serde_json.specs.Data.{Data}
 use Rattle.serde_json.specs.Read.{read}
 use Rattle.serde_json.specs.Find.{as_str, as_number, as_u64, as_object, get}
@@ -10,6 +9,7 @@ use Rattle.queue_name.specs.Address.{is_address, domain_of}
 use Rattle.queue_name.specs.QueueName.{Name, is_name}
 use Rattle.queue_name.specs.declared.message.Message.{Message}
 use Rattle.kumo_base.specs.Limits.{latest_moment}
+use Rattle.kumo_base.specs.Utf8.{utf8_in}
 use Rattle.queue_name.specs.Limits.{body_limit}
 use Rattle.mail_input.specs.declared.MailWhy.{MailWhy}
 use Rattle.mail_input.specs.declared.MailWhy.TheVariants.{NotJson, Missing, BadId, BadMoment, BadAddress, BadName, TooLong}
@@ -38,7 +38,8 @@ IsCauseOf fault.Memory reading = ⊤
 -- the JSON object that a line is
 unfoldable pub object_in : List ℕ → Result Data MailWhy
 object_in line =
-    required NotJson (option_and_then (λ d. if is_some (as_object d) then Some d else None) (if is_utf8 line then read line else None))
+    required NotJson (option_and_then (λ d. if is_some (as_object d) then Some d else None)
+    (option_and_then read (utf8_in line)))
 
 -- the text at a key; no value and a value that is no text are the same
 abbrev pub text_at : List ℕ → Data → Result (List ℕ) MailWhy

@@ -11,7 +11,7 @@ use crate::MailWhy;
 use crate::fault::LineFault;
 use crate::fields::{body_in, created_in, id_in, recipient_in, sender_in};
 use crate::name::name_in;
-use kumo_base::Text;
+use kumo_base::{Text, utf8_in};
 use queue_name::Message;
 use serde_json::Value;
 use std::alloc::Global;
@@ -33,7 +33,7 @@ fn object_in(alloc: Global, line: &[u8]) -> Result<Value, LineFault>
     ensures ok { IfOk result (λ value. object_in line.now ≡ Ok (view value)) }
     ensures err { IfErr result (λ e. IsCauseOf e (object_in line.now)) }
 {
-    let Some(text) = text_of(line) else {
+    let Some(text) = utf8_in(line) else {
         return Err(LineFault::Refused(MailWhy::NotJson));
     };
     match Value::from_str(alloc, text) {
@@ -51,16 +51,6 @@ fn object_in(alloc: Global, line: &[u8]) -> Result<Value, LineFault>
                 Err(LineFault::Refused(MailWhy::NotJson))
             }
         }
-    }
-}
-
-/// The bytes as text.
-fn text_of(bytes: &[u8]) -> Option<&str>
-    ensures { option_map (λ s. s.now) result ≡ (if is_utf8 bytes.now then Some bytes.now else None) }
-{
-    match std::str::from_utf8(bytes) {
-        Ok(text) => Some(text),
-        Err(_) => None,
     }
 }
 

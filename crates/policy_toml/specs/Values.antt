@@ -1,19 +1,15 @@
 -- What the values at the keys of a TOML policy file give, or the word by which they are refused.
-use Rattle.std.specs.Prelude.{ℕ, ℤ, pos, negsuc, ◌*◌, nat_le, List, Option, Some, None, option_and_then, Result, Ok, Err, if◌then◌else◌}
-use Rattle.std.specs.Str.{is_utf8}
+use Rattle.std.specs.Prelude.{ℕ, ℤ, pos, negsuc, ◌*◌, nat_le, List, Option, option_and_then, Result, Ok, Err, if◌then◌else◌}
 use Rattle.toml.specs.Data.{Data, string, integer, Members}
 use Rattle.toml.specs.Parse.{parse_document}
 use Rattle.kumo_base.specs.Duration.{duration_in}
+use Rattle.kumo_base.specs.Utf8.{utf8_in}
 use Rattle.kumo_base.specs.declared.duration.DurationFault.{DurationFault}
 use Rattle.kumo_base.specs.Duration.{longest}
 use Rattle.policy_core.specs.declared.fault.Why.{Why}
 use Rattle.policy_core.specs.declared.fault.Why.TheVariants.{BadType, BadDuration}
 
--- the bytes, where they are UTF-8
-abbrev pub utf8_in : List ℕ → Option (List ℕ)
-utf8_in bytes = if is_utf8 bytes then Some bytes else None
-
--- the table that they are, where they are TOML besides
+-- the table that bytes are, where they are TOML in UTF-8
 unfoldable pub document_in : List ℕ → Option Members
 document_in bytes = option_and_then parse_document (utf8_in bytes)
 

@@ -5,12 +5,12 @@ ghost use Rattle.toml.specs.View.{table_view, view};
 ghost use Rattle.policy_core.specs.declared.fault.Why.TheVariants.{NotToml};
 ghost use Rattle.policy_toml.specs.Places.{joined, fault, whole_table};
 ghost use Rattle.policy_toml.specs.Reports.{IsReport, IsUnopened};
-ghost use Rattle.policy_toml.specs.Values.{document_in, utf8_in};
+ghost use Rattle.policy_toml.specs.Values.{document_in};
 ghost use Rattle.policy_toml.specs.Walks.{is_table, table_at};
 ghost use Rattle.policy_toml.specs.Unread.{IsUnread};
 
 use crate::fault::{Fault, WHOLE_TABLE};
-use kumo_base::{Memory, Text};
+use kumo_base::{Memory, Text, utf8_in};
 use policy_core::{PolicyFault, PolicyFile, Why};
 use std::alloc::Global;
 use toml::{Table, Value};
@@ -30,7 +30,7 @@ fn read_document(alloc: Global, bytes: &[u8]) -> Result<Table, Unread>
     ensures ok { IfOk result (λ t. document_in bytes.now ≡ Some (table_view t)) }
     ensures err { IfErr result (λ why. IsUnread why (document_in bytes.now)) }
 {
-    let Some(text) = text_of(bytes) else {
+    let Some(text) = utf8_in(bytes) else {
         return Err(Unread::NotToml);
     };
     match toml::table_from_str(alloc, text) {
@@ -73,16 +73,6 @@ fn refused_whole(alloc: Global, file: PolicyFile) -> PolicyFault
         why: Why::NotToml,
     };
     fault.reported(alloc, file)
-}
-
-/// The text that the bytes are.
-fn text_of(bytes: &[u8]) -> Option<&str>
-    ensures { option_map (λ s. s.now) result ≡ utf8_in bytes.now }
-{
-    match std::str::from_utf8(bytes) {
-        Ok(text) => Some(text),
-        Err(_) => None,
-    }
 }
 
 /// The value at a key.

@@ -1,4 +1,5 @@
 pub mod AddressLemmas
+pub mod LowerCaseLemmas
 pub mod CutLemmas
 pub mod NameTextLemmas
 pub mod EqualLemmas

@@ -24,7 +24,8 @@ sender_to xs (inr h) = or_right (length xs == 0) (is_address xs) h
 
 abbrev pub keeps_rules : Message → Bool
 keeps_rules m =
-    nat_le m.created LAST_MOMENT && (length m.sender == 0 || is_address m.sender) && is_address m.recipient && bytes_eq m.name.domain (domain_of m.recipient) && nat_le (length m.body) BODY_LIMIT
+    nat_le m.created LAST_MOMENT && (length m.sender == 0 || is_address m.sender) && is_address m.recipient
+    && bytes_eq m.name.domain (domain_of m.recipient) && nat_le (length m.body) BODY_LIMIT
 
 all_five : (x y z u v : Bool) → x ≡ true → y ≡ true → z ≡ true → u ≡ true → v ≡ true → (x && y && z && u && v) ≡ true
 all_five x y z u v p q r s t = rw (p, q, r, s, t) refl
@@ -46,5 +47,6 @@ proper_is m id name = (
         domain = equal_from _ _ domains.1;
         body = leb-true _ _ bodies.1;
       },
-  λ p. all_five _ _ _ _ _ (le-leb _ _ p.created) (sender_to m.sender p.sender) p.recipient (equal _ _ p.domain) (le-leb _ _ p.body),
+  λ p. all_five _ _ _ _ _ (le-leb _ _ p.created) (sender_to m.sender p.sender) p.recipient (equal _ _ p.domain)
+      (le-leb _ _ p.body),
 )

@@ -16,9 +16,13 @@ is_at b = b == 64
 abbrev pub domain_of : List ℕ → List ℕ
 domain_of address = str_to_ascii_lowercase (after_last is_at address)
 
--- the domain of a queue name, without the bytes that site names use
+-- none of `>`, `|` and `=`, which stand in the names of sites
+abbrev pub is_no_mark : ℕ → Bool
+is_no_mark b = not (b == 62) && not (b == 124) && not (b == 61)
+
+-- the domain of a queue name, without the bytes that the names of sites use
 abbrev pub is_routed_domain : List ℕ → Bool
-is_routed_domain domain = is_domain domain && list_all (λ b. not (b == 62) && not (b == 124) && not (b == 61)) domain
+is_routed_domain domain = is_domain domain && list_all is_no_mark domain
 
 unfoldable pub is_address : List ℕ → Bool
 is_address address =

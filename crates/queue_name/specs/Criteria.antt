@@ -10,4 +10,6 @@ matches_component (Some given) None = false
 matches_component (Some given) (Some found) = bytes_eq given found
 
 abbrev pub matches : Criteria → Name → Bool
-matches c n = matches_component c.campaign n.campaign && matches_component c.tenant n.tenant && matches_component c.domain (Some n.domain)
+matches c n =
+    matches_component c.campaign n.campaign && matches_component c.tenant n.tenant
+    && matches_component c.domain (Some n.domain)

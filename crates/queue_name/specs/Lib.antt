@@ -1,5 +1,6 @@
 pub mod Limits
 pub mod QueueName
+pub mod NameParts
 pub mod Address
 pub mod Message
 pub mod NameText

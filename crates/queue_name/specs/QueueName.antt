@@ -1,6 +1,7 @@
 -- Names of scheduled queues, `campaign:tenant@domain`, and their one spelling (KumoMTA's manual, queue names).
 use Rattle.std.specs.Prelude.{ℕ, ◌==◌, nat_lt, nat_le, List, ◌∷◌, ◌++◌, length, Bool, true, not, ◌&&◌, Option, Some, None}
 use Rattle.std.specs.List.{list_all}
+use Rattle.std.specs.Str.{str_to_ascii_lowercase}
 use Rattle.queue_name.specs.Limits.{name_limit}
 
 pub record Name : Type 0 where
@@ -41,3 +42,7 @@ abbrev pub is_name : Name → Bool
 is_name n =
     is_optional_component n.campaign && is_optional_component n.tenant && is_domain n.domain
     && nat_le (length (spelling n)) name_limit
+
+-- the name with its domain in lower case
+abbrev pub in_lower_case : Name → Name
+in_lower_case n = record { campaign = n.campaign; tenant = n.tenant; domain = str_to_ascii_lowercase n.domain }

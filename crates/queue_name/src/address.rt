@@ -3,10 +3,10 @@ ghost use Rattle.std.specs.Prelude.{◌≡◌, ◌==◌, ◌&&◌, not, true, fa
 ghost use Rattle.std.specs.List.{list_all, list_any, before_last, after_last};
 ghost use Rattle.std.specs.Char.{to_ascii_lowercase};
 ghost use Rattle.std.specs.Str.{str_to_ascii_lowercase};
-ghost use Rattle.queue_name.specs.Address.{is_address, is_address_byte, is_at, is_routed_domain, domain_of};
-ghost use Rattle.queue_name.specs.QueueName.{is_domain_byte, is_name};
+ghost use Rattle.queue_name.specs.Address.{is_address, is_address_byte, is_at, is_no_mark, is_routed_domain, domain_of};
+ghost use Rattle.queue_name.specs.QueueName.{is_component, is_name};
 
-use crate::component::is_domain_byte;
+use crate::component::is_component;
 use crate::message::ADDRESS_LIMIT;
 use kumo_base::{Memory, Text};
 use std::alloc::Global;
@@ -20,7 +20,7 @@ pub fn is_address(text: &str) -> bool
         return false;
     }
     match around_at(text) {
-        Some((local, domain)) => !local.is_empty() && is_routed(domain.as_bytes()),
+        Some((local, domain)) => !local.is_empty() && is_routed(domain),
         None => false,
     }
 }
@@ -29,7 +29,8 @@ pub fn is_address(text: &str) -> bool
 /// a queue.
 pub fn domain_of(alloc: Global, address: &str) -> Result<Text, Memory>
     ensures value { IfOk result (λ d. d ≡ domain_of address.now) }
-    ensures names { IsTrue (is_address address.now) → IfOk result (λ d. IsTrue (is_name (record { campaign = None; tenant = None; domain = d }))) }
+    ensures names { IsTrue (is_address address.now)
+        → IfOk result (λ d. IsTrue (is_name (record { campaign = None; tenant = None; domain = d }))) }
 {
     Ok(Text::of_string(behind_at(address).to_ascii_lowercase(alloc)?))
 }
@@ -71,7 +72,9 @@ fn behind_at(address: &str) -> &str
 /// What stands before and behind the last `@`.
 fn around_at(address: &str) -> Option<(&str, &str)>
     ensures { MatchOption result ((list_any is_at address.now ≡ false) × (after_last is_at address.now ≡ address.now))
-        (λ p. (list_any is_at address.now ≡ true) × (before_last is_at address.now ≡ p.0.now) × (after_last is_at address.now ≡ p.1.now)) }
+        (λ p. (list_any is_at address.now ≡ true)
+        × (before_last is_at address.now ≡ p.0.now)
+        × (after_last is_at address.now ≡ p.1.now)) }
 {
     address.rsplit_once('@')
 }
@@ -86,32 +89,23 @@ fn is_visible(bytes: &[u8]) -> bool
 }
 
 /// Whether a domain routes, once it is in lower case.
-#[tactic(auto, using(crate::proofs::AddressLemmas::routed_is))]
-fn is_routed(domain: &[u8]) -> bool
+#[tactic(auto, using(crate::proofs::LowerCaseLemmas::routed_is))]
+fn is_routed(domain: &str) -> bool
     ensures { result ≡ is_routed_domain (str_to_ascii_lowercase domain.now) }
 {
-    !domain.is_empty() && may_name(domain) && is_free_of_marks(domain)
-}
-
-/// Whether each byte may stand in the domain of a name, once it is in lower case.
-fn may_name(domain: &[u8]) -> bool
-    ensures { result ≡ list_all (λ b. is_domain_byte (to_ascii_lowercase b)) domain.now }
-{
-    domain
-        .iter()
-        .all(|b| is_domain_byte(b.to_ascii_lowercase()))
+    is_component(domain) && is_free_of_marks(domain.as_bytes())
 }
 
 /// Whether no byte is one of `>`, `|` and `=`, which stand in the names of sites.
 fn is_free_of_marks(domain: &[u8]) -> bool
-    ensures { result ≡ list_all (λ b. not (to_ascii_lowercase b == 62) && not (to_ascii_lowercase b == 124) && not (to_ascii_lowercase b == 61)) domain.now }
+    ensures { result ≡ list_all (λ b. is_no_mark (to_ascii_lowercase b)) domain.now }
 {
     domain.iter().all(|b| is_no_mark(b.to_ascii_lowercase()))
 }
 
 /// Whether a byte is none of `>`, `|` and `=`.
 fn is_no_mark(byte: u8) -> bool
-    ensures { result ≡ (not (byte == 62) && not (byte == 124) && not (byte == 61)) }
+    ensures { result ≡ is_no_mark byte }
 {
     byte != b'>' && byte != b'|' && byte != b'='
 }

@@ -8,6 +8,7 @@ pub mod laws;
 mod message;
 mod name;
 mod parse;
+mod parts;
 
 pub use address::{domain_of, is_address};
 pub use component::{is_campaign_of_some_name, is_domain_of_some_name, is_tenant_of_some_name};
@@ -15,3 +16,4 @@ pub use criteria::Criteria;
 pub use message::{ADDRESS_LIMIT, BODY_LIMIT, Message};
 pub use name::{NAME_LIMIT, QueueName};
 pub use parse::NameFault;
+pub use parts::NameParts;

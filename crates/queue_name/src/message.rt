@@ -62,7 +62,11 @@ impl Message {
 
 /// Whether these parts of a message keep the rules.
 fn keeps_rules(created: u64, sender: &str, recipient: &str, domain: &str, body: &str) -> bool
-    ensures { result ≡ (nat_le created LAST_MOMENT && (length sender.now == 0 || is_address sender.now) && is_address recipient.now && bytes_eq domain.now (domain_of recipient.now) && nat_le (length body.now) BODY_LIMIT) }
+    ensures { result ≡ (nat_le created LAST_MOMENT
+        && (length sender.now == 0 || is_address sender.now)
+        && is_address recipient.now
+        && bytes_eq domain.now (domain_of recipient.now)
+        && nat_le (length body.now) BODY_LIMIT) }
 {
     created <= LAST_MOMENT
         && (sender.is_empty() || is_address(sender))

@@ -1,6 +1,6 @@
 //! The name of a scheduled queue, `campaign:tenant@domain`.
 ghost use Rattle.std.specs.Prelude.{◌≡◌, ◌++◌, IfOk, OnOk, OnErr, IsTrue};
-ghost use Rattle.queue_name.specs.QueueName.{Name, is_name, spelling};
+ghost use Rattle.queue_name.specs.QueueName.{Name, is_name, spelled, spelling};
 
 use kumo_base::{Memory, Text};
 use std::alloc::Global;
@@ -68,7 +68,7 @@ fn spelled(
     tenant: &Option<Text>,
     domain: &Text,
 ) -> Result<Text, Memory>
-    ensures { IfOk result (λ text. text ≡ spelling (record { campaign = campaign.now; tenant = tenant.now; domain = domain.now })) }
+    ensures { IfOk result (λ text. text ≡ spelled campaign.now tenant.now domain.now) }
 {
     match (campaign, tenant) {
         (None, None) => domain.copy(alloc),

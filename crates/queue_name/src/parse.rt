@@ -2,11 +2,12 @@
 ghost use Rattle.std.specs.Prelude.{◌≡◌, ◌==◌, ◌&&◌, ◌||◌, [], not, ℕ, List, Option, Some, None, Ok, Err, IfOk, IfErr, MatchOption, option_map, true, false, length};
 ghost use Rattle.std.specs.List.{list_any, position, before_first, after_first};
 ghost use Rattle.queue_name.specs.Address.{is_at};
-ghost use Rattle.queue_name.specs.QueueName.{Name};
+ghost use Rattle.queue_name.specs.NameParts.{name_of};
 ghost use Rattle.queue_name.specs.NameText.{is_bad, is_colon, is_exclamation, is_control, is_capital, bad_byte, if_any, components, components_around_at, has_empty, is_empty_component, name_in, IsNameFaultOf};
 
 use crate::name::{NAME_LIMIT, QueueName};
-use kumo_base::{Memory, Text};
+use crate::parts::NameParts;
+use kumo_base::{Memory, around_first};
 use std::alloc::Global;
 
 /// Why a text is not read as a name. Places count bytes from 0.
@@ -34,14 +35,6 @@ impl From<Memory> for NameFault {
     }
 }
 
-/// The components of a text, which are parts of it.
-#[derive(Clone, Copy)]
-struct Parts<'a> {
-    campaign: Option<&'a str>,
-    tenant: Option<&'a str>,
-    domain: &'a str,
-}
-
 impl QueueName {
     /// The name that a text is the spelling of: `domain`, `tenant@domain`, `campaign:tenant@domain` or
     /// `campaign:@domain`. Of several causes the one that `NameFault` lists first is answered.
@@ -63,21 +56,7 @@ impl QueueName {
         if has_empty(&found) {
             return Err(NameFault::Empty);
         }
-        Ok(QueueName {
-            campaign: owned(alloc, found.campaign)?,
-            tenant: owned(alloc, found.tenant)?,
-            domain: Text::of(alloc, found.domain)?,
-        })
-    }
-}
-
-/// A component of its own, where it is there.
-fn owned(alloc: Global, component: Option<&str>) -> Result<Option<Text>, Memory>
-    ensures { IfOk result (λ text. text ≡ option_map (λ s. s.now) component.entry) }
-{
-    match component {
-        Some(text) => Ok(Some(Text::of(alloc, text)?)),
-        None => Ok(None),
+        Ok(found.to_name(alloc)?)
     }
 }
 
@@ -111,7 +90,10 @@ fn bad_byte(bytes: &[u8]) -> Option<usize>
 
 /// Whether a byte may not stand behind what was seen and before what is after it.
 fn is_bad(byte: u8, seen_at: bool, seen_colon: bool, in_domain: bool, after: &[u8]) -> bool
-    ensures { result ≡ (is_control byte || (is_at byte && seen_at) || (is_colon byte && (seen_colon || not (list_any is_at after.now))) || (is_capital byte && in_domain)) }
+    ensures { result ≡ (is_control byte
+        || (is_at byte && seen_at)
+        || (is_colon byte && (seen_colon || not (list_any is_at after.now)))
+        || (is_capital byte && in_domain)) }
 {
     is_control(byte)
         || byte == b'@' && seen_at
@@ -141,12 +123,12 @@ fn is_capital(byte: u8) -> bool
 }
 
 /// The components of a text in which each byte may stand.
-fn components(text: &str) -> Parts<'_>
-    ensures { components text.now ≡ record { campaign = option_map (λ s. s.now) result.campaign; tenant = option_map (λ s. s.now) result.tenant; domain = result.domain.now } }
+fn components(text: &str) -> NameParts<'_>
+    ensures { components text.now ≡ name_of result }
 {
-    match around_at(text) {
+    match around_first(text, '@') {
         Some((front, domain)) => components_around_at(front, domain),
-        None => Parts {
+        None => NameParts {
             campaign: None,
             tenant: None,
             domain: text,
@@ -155,37 +137,21 @@ fn components(text: &str) -> Parts<'_>
 }
 
 /// The components, by what stands before and behind the `@`.
-fn components_around_at<'a>(front: &'a str, domain: &'a str) -> Parts<'a>
-    ensures { components_around_at front.now domain.now (list_any is_colon front.now) ≡ record { campaign = option_map (λ s. s.now) result.campaign; tenant = option_map (λ s. s.now) result.tenant; domain = result.domain.now } }
+fn components_around_at<'a>(front: &'a str, domain: &'a str) -> NameParts<'a>
+    ensures { components_around_at front.now domain.now (list_any is_colon front.now) ≡ name_of result }
 {
-    match around_colon(front) {
-        Some((campaign, tenant)) => Parts {
+    match around_first(front, ':') {
+        Some((campaign, tenant)) => NameParts {
             campaign: Some(campaign),
             tenant: if_any(tenant),
             domain,
         },
-        None => Parts {
+        None => NameParts {
             campaign: None,
             tenant: Some(front),
             domain,
         },
     }
-}
-
-/// What stands before and behind the first `@`.
-fn around_at(text: &str) -> Option<(&str, &str)>
-    ensures { MatchOption result (list_any is_at text.now ≡ false)
-        (λ p. (list_any is_at text.now ≡ true) × (before_first is_at text.now ≡ p.0.now) × (after_first is_at text.now ≡ p.1.now)) }
-{
-    text.split_once('@')
-}
-
-/// What stands before and behind the first `:`.
-fn around_colon(text: &str) -> Option<(&str, &str)>
-    ensures { MatchOption result (list_any is_colon text.now ≡ false)
-        (λ p. (list_any is_colon text.now ≡ true) × (before_first is_colon text.now ≡ p.0.now) × (after_first is_colon text.now ≡ p.1.now)) }
-{
-    text.split_once(':')
 }
 
 /// A component, where it is not empty.
@@ -196,8 +162,8 @@ fn if_any(text: &str) -> Option<&str>
 }
 
 /// Whether a component that has to be there is empty.
-fn has_empty(found: &Parts<'_>) -> bool
-    ensures { result ≡ has_empty (record { campaign = option_map (λ s. s.now) found.now.campaign; tenant = option_map (λ s. s.now) found.now.tenant; domain = found.now.domain.now }) }
+fn has_empty(found: &NameParts<'_>) -> bool
+    ensures { result ≡ has_empty (name_of found.now) }
 {
     found.domain.is_empty() || is_empty(found.campaign) || is_empty(found.tenant)
 }

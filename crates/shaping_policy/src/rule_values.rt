@@ -10,7 +10,7 @@ ghost use Rattle.shaping_policy.specs.Faults.{match_in, match_at};
 ghost use Rattle.shaping_policy.specs.Suffixes.{match_of};
 
 use crate::option_values::setting_at;
-use kumo_base::{Memory, Text};
+use kumo_base::{Memory, Text, around_first};
 use policy_core::{Action, GREATEST_COUNT, Match, Setting, Trigger, Why};
 use policy_toml::{duration_at, entry, table_at};
 use std::alloc::Global;
@@ -150,20 +150,12 @@ fn trigger_in(table: &Table) -> Result<Trigger, Why>
 fn threshold_in(text: &str) -> Result<Trigger, Why>
     ensures { result ≡ threshold_in text.now }
 {
-    match around_slash(text) {
+    match around_first(text, '/') {
         Some((count, unit)) => {
             threshold_of(number_in(count.as_bytes()), period_of(unit.as_bytes()))
         }
         None => Err(Why::BadTrigger),
     }
-}
-
-/// What stands before and behind the first slash.
-fn around_slash(text: &str) -> Option<(&str, &str)>
-    ensures { MatchOption result (list_any is_slash text.now ≡ false)
-        (λ p. (list_any is_slash text.now ≡ true) × (before_first is_slash text.now ≡ p.0.now) × (after_first is_slash text.now ≡ p.1.now)) }
-{
-    text.split_once('/')
 }
 
 /// The threshold of a count and a period, where both could be read.

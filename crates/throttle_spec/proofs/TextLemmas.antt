@@ -1,15 +1,11 @@
 -- Words in texts, and numbers with `_`.
 use Rattle.std.proofs.Common.{◌≡◌, ◌≢◌, ◌<◌, ◌≤◌, ◌+◌, ◌-◌, ◌*◌, ◌==◌, ℕ, zero, suc, min, Bool, true, false, cond, List, [], ◌∷◌, ◌++◌, length, get_or, take, drop, filter, leb, Option, Some, None, MatchOption, option_map, refl, sym, ap, ◌∙◌, arith, eq-eqb, append-nil, le_of_suc-le-suc, suc-le-suc}
 use Rattle.std.specs.Str.Pattern.{LacksTextAt, FindsText, SplitsAroundMatch}
-use Rattle.std.specs.List.{list_any, before_first, after_first, position_or_len}
 use Rattle.std.specs.Char.{is_ascii_digit, digit_value}
 use Rattle.std.specs.Str.Parse.{digits_value}
 use Rattle.std.proofs.lemmas.Bool.{eqb-true, and_parts, leb-true, le-ltb, lt-ltb}
 use Rattle.std.proofs.lemmas.Int.Digits.{digits_value_push}
-use Rattle.std.proofs.lemmas.List.Elements.{filter_more, All-from_get_or}
-use Rattle.std.proofs.lemmas.List.Folds.{list_any_at, list_any_none}
-use Rattle.std.proofs.lemmas.List.Sums.{fails_before_first, passes_at_first}
-use Rattle.std.proofs.lemmas.Str.Pattern.{split_once_first, IsSplitOnceResult}
+use Rattle.std.proofs.lemmas.List.Elements.{filter_more}
 use Rattle.throttle_spec.specs.ThrottleText.{behind_word, around_word, here_or_later, put_before}
 use denote.Ref.{Bor}
 
@@ -60,23 +56,6 @@ around_text word text (Some x) h =
     around_at word text (drop h.1 text) h.0 found.0 found.1.split (omega (arith, h.5, h.7))
     ∙ ap (λ (front : List ℕ). Some (record { before = front; behind = drop h.1 text })) (sym h.3)
     ∙ ap (λ (back : List ℕ). Some (record { before = x.0.now; behind = back })) (sym h.4)
-
--- where the first such byte stands nowhere, there is none, and where it stands within, there is one
-none_at : (c : ℕ) (xs : List ℕ) → position_or_len (λ b. b == c) xs ≡ length xs → list_any (λ b. b == c) xs ≡ false
-none_at c xs is =
-    list_any_none (λ b. b == c) xs (All-from_get_or (λ b. (b == c) ≡ false) xs 0 (λ k l. fails_before_first (λ b. b == c) xs k 0 (omega (arith, is))))
-
-one_at : (c : ℕ) (xs : List ℕ) → position_or_len (λ b. b == c) xs < length xs → list_any (λ b. b == c) xs ≡ true
-one_at c xs within = list_any_at (λ b. b == c) xs (position_or_len (λ b. b == c) xs) 0 within (passes_at_first (λ b. b == c) xs 0 within)
-
--- takes the clause of `split_once` at an ASCII byte
-pub around_byte : (c : ℕ) (bs : List ℕ) (r : Option (Bor (List ℕ) × Bor (List ℕ))) → c < 128 → IsSplitOnceResult c bs r
-    → MatchOption r (list_any (λ b. b == c) bs ≡ false)
-    (λ p. (list_any (λ b. b == c) bs ≡ true) × (before_first (λ b. b == c) bs ≡ p.0.now) × (after_first (λ b. b == c) bs ≡ p.1.now))
-around_byte c bs None ascii h = none_at c bs (split_once_first c bs None h ascii)
-around_byte c bs (Some x) ascii h =
-    let parts = split_once_first c bs (Some x) h ascii in
-    (one_at c bs parts.0, sym parts.1, sym parts.2)
 
 -- one more byte of a number that is kept below a cap
 digit_of : (d : ℕ) → is_ascii_digit d ≡ true → digit_value d ≡ d - 48

@@ -7,7 +7,7 @@ ghost use Rattle.std.specs.Str.Parse.{digits_value};
 ghost use Rattle.throttle_spec.specs.ThrottleText.{is_slash, Around, without_word, around_word, is_digits, is_number, number_of, period_of, with_rate, with_period, with_burst, throttle_around, throttle_of};
 
 use crate::throttle::{GREATEST_QUANTITY, LONGEST_PERIOD, SHORTEST_UNIT, ThrottleSpec};
-use kumo_base::unit_milliseconds;
+use kumo_base::{all_digits, around_first, unit_milliseconds};
 
 /// One past the greatest quantity. A number that is larger is kept as this, so that none is too large for its type.
 const TOO_LARGE: u64 = GREATEST_QUANTITY + 1;
@@ -35,7 +35,8 @@ impl ThrottleSpec {
     pub fn parse(text: &str) -> Result<ThrottleSpec, ThrottleFault>
         ensures value { result ≡ throttle_of text.now }
     {
-        match around_slash(without_local(text)) {
+        let limit = without_local(text);
+        match around_first(limit, '/') {
             Some((quantity, rate)) => throttle_around(quantity, rate),
             None => Err(ThrottleFault::NoSlash),
         }
@@ -50,14 +51,6 @@ pub fn without_local(text: &str) -> &str
         Some(rest) => rest,
         None => text,
     }
-}
-
-/// What stands before and behind the first slash.
-fn around_slash(text: &str) -> Option<(&str, &str)>
-    ensures { MatchOption result (list_any is_slash text.now ≡ false)
-        (λ p. (list_any is_slash text.now ≡ true) × (before_first is_slash text.now ≡ p.0.now) × (after_first is_slash text.now ≡ p.1.now)) }
-{
-    text.split_once('/')
 }
 
 /// What stands before and behind the first `,max_burst=`.
@@ -175,13 +168,6 @@ fn is_digits(part: &[u8]) -> bool
     ensures { result ≡ is_digits part.now }
 {
     0 < part.len() && all_digits(part)
-}
-
-/// Whether all bytes are digits.
-fn all_digits(part: &[u8]) -> bool
-    ensures { result ≡ list_all is_ascii_digit part.now }
-{
-    part.iter().all(|b| b.is_ascii_digit())
 }
 
 /// The number that the digits of a text write, or `TOO_LARGE` where it is more.

@@ -33,14 +33,18 @@ returns-then-sum-gt-LONGEST_DURATION-clause-value c =
     let found = c.in_ok-group.ensures.value in
     let long = past_cap c.loop-rest.sum found.0 c.in_ok-group.group.milliseconds found.2 c.if-sum-gt-LONGEST_DURATION.true in
     ap Err c.fault_at.ensures
-    ∙ sym (reads_too_long c.args.text.now _ _ c.loop-rest.rest.now _ c.loop-rest.invariant.same (is_some _ c.loop-rest-test.ensures) found.1 long)
+    ∙ sym (reads_too_long c.args.text.now _ _ c.loop-rest.rest.now _ c.loop-rest.invariant.same
+    (is_some _ c.loop-rest-test.ensures) found.1 long)
 
 pub loop-rest-preserved : goal.loop-rest-preserved
 loop-rest-preserved c =
     let found = c.in_ok-group.ensures.value in
     let short : c.loop-rest.sum + c.in_ok-group.group.milliseconds ≤ LONGEST_DURATION = c.if-sum-gt-LONGEST_DURATION.false in
-    let exact : c.in_ok-group.group.milliseconds ≡ found.0 = within_cap c.loop-rest.sum found.0 c.in_ok-group.group.milliseconds found.2 short in
-    let more = reads_more c.args.text.now _ c.loop-rest.sum c.loop-rest.rest.now _ c.loop-rest.invariant.same (is_some _ c.loop-rest-test.ensures) found.1 (rw exact at short) c.in_ok-group.ensures.shorter in
+    let exact : c.in_ok-group.group.milliseconds ≡ found.0 =
+    within_cap c.loop-rest.sum found.0 c.in_ok-group.group.milliseconds found.2 short in
+    let more =
+    reads_more c.args.text.now _ c.loop-rest.sum c.loop-rest.rest.now _ c.loop-rest.invariant.same
+    (is_some _ c.loop-rest-test.ensures) found.1 (rw exact at short) c.in_ok-group.ensures.shorter in
     record {
       limit = short;
       within = omega (arith, c.without_spaces-rest-in-loop-rest.ensures.within, c.in_ok-group.ensures.shorter, c.loop-rest.invariant.within);
@@ -48,4 +52,5 @@ loop-rest-preserved c =
     }
 
 pub returns-clause-value : goal.returns-clause-value
-returns-clause-value c = sym (reads_end c.args.text.now _ _ c.loop-rest.rest.now c.loop-rest.invariant.same (is_none _ c.loop-rest-test.ensures))
+returns-clause-value c =
+    sym (reads_end c.args.text.now _ _ c.loop-rest.rest.now c.loop-rest.invariant.same (is_none _ c.loop-rest-test.ensures))

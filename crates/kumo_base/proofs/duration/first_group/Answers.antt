@@ -18,7 +18,8 @@ number_in-requires c =
     let bytes = c.args.bytes.now in
     let front : c.split_at.result.0.now ≡ take (prefix_len is_ascii_digit bytes) bytes =
     c.split_at.ensures.front ∙ ap (λ n. take n bytes) c.digits_in_front.ensures.value in
-    let count : length c.split_at.result.0.now ≡ prefix_len is_ascii_digit bytes = c.split_at.ensures.front_len ∙ c.digits_in_front.ensures.value in
+    let count : length c.split_at.result.0.now ≡ prefix_len is_ascii_digit bytes =
+    c.split_at.ensures.front_len ∙ c.digits_in_front.ensures.value in
     λ k below. rw front (digits_in_front bytes k (omega (arith, below, count)))
 
 pub returns-in-Some-clause-value : goal.returns-in-Some-clause-value
@@ -27,7 +28,8 @@ returns-in-Some-clause-value c =
     let front : c.split_at.result.0.now ≡ take_while is_ascii_digit bytes =
     c.split_at.ensures.front ∙ ap (λ n. take n bytes) c.digits_in_front.ensures.value in
     let unit : c.without_spaces-unit.result.now ≡ behind is_space (behind is_ascii_digit bytes) =
-    c.without_spaces-unit.ensures.value ∙ ap (behind is_space) (c.split_at.ensures.back ∙ ap (λ n. drop n bytes) c.digits_in_front.ensures.value) in
+    c.without_spaces-unit.ensures.value
+    ∙ ap (behind is_space) (c.split_at.ensures.back ∙ ap (λ n. drop n bytes) c.digits_in_front.ensures.value) in
     let name : c.split_at-2.result.0.now ≡ take_while is_ascii_alphabetic c.without_spaces-unit.result.now =
     c.split_at-2.ensures.front ∙ ap (λ n. take n c.without_spaces-unit.result.now) c.letters_in_front.ensures.value in
     let rest : c.split_at-2.result.1.now ≡ behind is_ascii_alphabetic c.without_spaces-unit.result.now =
@@ -38,16 +40,19 @@ returns-in-Some-clause-value c =
     c.number_in.ensures ∙ ap (λ ds. min (digits_value 10 ds) TOO_LONG) front in (
       digits_value 10 (take_while is_ascii_digit bytes) * c.in-Some.factor,
       group_is c.args.whole bytes c.without_spaces-unit.result.now c.split_at-2.result.0.now c.split_at-2.result.1.now c.in-Some.factor some unit name rest (sym c.in-Some.ensures.value),
-      c.product.ensures ∙ ap (λ n. min (n * c.in-Some.factor) TOO_LONG) number ∙ capped_product _ c.in-Some.factor TOO_LONG c.in-Some.ensures.positive,
+      c.product.ensures ∙ ap (λ n. min (n * c.in-Some.factor) TOO_LONG) number
+          ∙ capped_product _ c.in-Some.factor TOO_LONG c.in-Some.ensures.positive,
     )
 
 pub returns-in-None-clause-value : goal.returns-in-None-clause-value
 returns-in-None-clause-value c =
     let bytes = c.args.bytes.now in
     let unit : c.without_spaces-unit.result.now ≡ behind is_space (behind is_ascii_digit bytes) =
-    c.without_spaces-unit.ensures.value ∙ ap (behind is_space) (c.split_at.ensures.back ∙ ap (λ n. drop n bytes) c.digits_in_front.ensures.value) in
+    c.without_spaces-unit.ensures.value
+    ∙ ap (behind is_space) (c.split_at.ensures.back ∙ ap (λ n. drop n bytes) c.digits_in_front.ensures.value) in
     let name : c.split_at-2.result.0.now ≡ take_while is_ascii_alphabetic c.without_spaces-unit.result.now =
     c.split_at-2.ensures.front ∙ ap (λ n. take n c.without_spaces-unit.result.now) c.letters_in_front.ensures.value in
     let some : 0 < prefix_len is_ascii_digit bytes =
     omega (arith, c.digits_in_front.ensures.value, c.split_at.ensures.front_len, is_some _ c.if-is_empty.ensures) in
-    group_bad c.args.whole bytes c.without_spaces-unit.result.now c.split_at-2.result.0.now some unit name (sym c.in-None.ensures.value) ∙ ap Err (sym c.fault_at-in-None.ensures)
+    group_bad c.args.whole bytes c.without_spaces-unit.result.now c.split_at-2.result.0.now some unit name
+    (sym c.in-None.ensures.value) ∙ ap Err (sym c.fault_at-in-None.ensures)

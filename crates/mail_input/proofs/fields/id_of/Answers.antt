@@ -2,7 +2,8 @@ use Rattle.std.proofs.Common.{◌≡◌, ℕ, List, Result, Option, Ok, Err, Som
 use Rattle.mail_input.proofs.fields.id_of.Goals as goal
 
 -- no text is read where the answer is an error
-none_read : {E : Type 0} (r : Result (List ℕ) E) (o : Option (List ℕ)) (e : E) → (IsOk r ↔ ((u : List ℕ) × (o ≡ Some u))) → r ≡ Err e → o ≡ None
+none_read : {E : Type 0} (r : Result (List ℕ) E) (o : Option (List ℕ)) (e : E) → (IsOk r ↔ ((u : List ℕ) × (o ≡ Some u)))
+    → r ≡ Err e → o ≡ None
 none_read r None e h is = refl
 none_read (Ok x) (Some u) e h is = absurd cc
 none_read (Err x) (Some u) e h is = absurd (true≢false (sym (h.1 (u, refl))))
