@@ -42,6 +42,7 @@ OPTIONS = {
     "max_deliveries_per_connection": "1024",
     "max_ready": "1024",
     "consecutive_connection_failures_before_delay": "100",
+    "idle_timeout": "none",
 }
 
 

@@ -192,14 +192,14 @@ FOLDER = pathlib.Path(__file__).resolve().parent.parent / "examples" / "policy"
 EXAMPLE = {name: (FOLDER / f"{name}.{'txt' if name == 'mx' else 'toml'}").read_text() for name in NAMES}
 case(["check", *named(EXAMPLE)], (FOLDER / "check.stdout").read_text(), 0, **EXAMPLE)
 
-# What `explain` says of them, without the key `idle_timeout`.
-EXAMPLE["shaping"] = EXAMPLE["shaping"].replace('idle_timeout = "30s"\n', "")
+# What `explain` says of them.
 FOR_ALL = {"pool": "bulk", "max_age": "432000000", "retry_interval": "600000", "max_retry_interval": "14400000"}
 ON_ALL = {
     "connection_limit": "10",
     "max_message_rate": "100/1000 burst 100",
     "max_connection_rate": "60/60000 burst 60",
     "max_deliveries_per_connection": "200",
+    "idle_timeout": "30000",
 }
 COMPLAINTS = [
     r'Suspend Threshold 10/3600000 for 900000 on ["too many (connections|messages)","4\\.7\\.\\d+ .*try again later"]',

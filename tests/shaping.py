@@ -50,6 +50,9 @@ for value, shown in [
     text = "[default]\n" + "".join(f"{name} = '{value}'\n" for name in RATES)
     explained(DOMAIN, options=dict.fromkeys(RATES, shown), shaping=text)
 
+for value, shown in [("'1ms'", "1"), ("'60s'", "60000"), ("'1m 30s'", "90000"), ("30", "30000"), ("3153600000", "3153600000000")]:
+    explained(DOMAIN, options={"idle_timeout": shown}, shaping=f"default.idle_timeout = {value}\n")
+
 # Triggers.
 for trigger, shown in [
     ("'Immediate'", "Immediate"),
@@ -78,6 +81,7 @@ for action, *shown in [
         "{SetConfig={value=3,name='consecutive_connection_failures_before_delay'}}",
         "SetConfig consecutive_connection_failures_before_delay=3",
     ),
+    ("{SetConfig={name='idle_timeout',value='1m'}}", "SetConfig idle_timeout=60000"),
 ]:
     one_rule(f"regex='a',duration=1,action={action}", *[f'{line} Immediate for 1000 on ["a"]' for line in shown])
 
@@ -452,6 +456,12 @@ VALUES = [
     ("consecutive_connection_failures_before_delay", "'x'", "BadOption"),
     ("max_message_rate", "'100'", "BadThrottle"),
     ("max_connection_rate", "'0/s'", "BadThrottle"),
+    ("idle_timeout", "true", "BadType"),
+    ("idle_timeout", "0", "BadOption"),
+    ("idle_timeout", "'0s'", "BadOption"),
+    ("idle_timeout", "'soon'", "BadOption"),
+    ("idle_timeout", "-1", "BadOption"),
+    ("idle_timeout", "'36501d'", "BadOption"),
 ]
 for name, value, word in VALUES:
     refused(f"shaping default {name}: {word}", shaping=f"default.{name} = {value}\n")
