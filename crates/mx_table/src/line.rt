@@ -4,7 +4,7 @@ ghost use Rattle.std.specs.List.{list_all};
 ghost use Rattle.std.specs.Str.{str_to_ascii_lowercase};
 ghost use Rattle.policy_core.specs.Names.{is_host_name};
 ghost use Rattle.mx_table.specs.MxText.{is_space, words_of, without_dot, name_of, row_named, row_of_words, is_comment, row_of};
-ghost use Rattle.mx_table.specs.Causes.{IsCauseOf, IsBadName};
+ghost use Rattle.mx_table.specs.inside.Causes.{IsCauseOf, IsBadName};
 
 use crate::fault::RowFault;
 use crate::push;

@@ -4,8 +4,8 @@ pub mod Names
 pub mod PathOptions
 pub mod Mx
 pub mod Policy
-pub mod PoolCheck
 pub mod Site
 pub mod PathTables
 pub mod Rotation
 pub mod Words
+pub mod inside

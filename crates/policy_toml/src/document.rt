@@ -7,7 +7,7 @@ ghost use Rattle.policy_toml.specs.Places.{joined, fault, whole_table};
 ghost use Rattle.policy_toml.specs.Reports.{IsReport, IsUnopened};
 ghost use Rattle.policy_toml.specs.Values.{document_in, utf8_in};
 ghost use Rattle.policy_toml.specs.Walks.{is_table, table_at};
-ghost use Rattle.policy_toml.specs.Unread.{IsUnread};
+ghost use Rattle.policy_toml.specs.inside.Unread.{IsUnread};
 
 use crate::fault::{Fault, WHOLE_TABLE};
 use kumo_base::{Memory, Text};

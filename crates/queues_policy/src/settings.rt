@@ -1,7 +1,7 @@
 //! The settings of a queue: the layers of its name, one over another.
 ghost use Rattle.std.specs.Prelude.{◌≡◌, [], IfOk, find, bytes_eq, unwrap_or, option_map, option_and_then};
 ghost use Rattle.policy_core.specs.Layers.{settings_of, settings_in, queues_of_domain, tenant_layer, layer_named};
-ghost use Rattle.queues_policy.specs.InForce.{settings_now, over, tenant_within, campaign_within};
+ghost use Rattle.queues_policy.specs.inside.InForce.{settings_now, over, tenant_within, campaign_within};
 
 use kumo_base::{Memory, Text};
 use policy_core::{

@@ -3,8 +3,8 @@ ghost use Rattle.std.specs.Prelude.{◌≡◌, ◌++◌, ◌∷◌, [], IfOk, On
 ghost use Rattle.std.specs.List.{filter};
 ghost use Rattle.policy_core.specs.Site.{hosts_of, are_same_texts, is_at_site, own_domain, rollup_of, shape_of};
 ghost use Rattle.policy_core.specs.PathTables.{firsts};
-ghost use Rattle.shaping_merge.specs.Domains.{AreDomainsOf};
-ghost use Rattle.shaping_merge.specs.Rollups.{AreRollups};
+ghost use Rattle.shaping_merge.specs.inside.Domains.{AreDomainsOf};
+ghost use Rattle.shaping_merge.specs.inside.Rollups.{AreRollups};
 
 use crate::rollups::rollup_in;
 use crate::shapes::Shapes;

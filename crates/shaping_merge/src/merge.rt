@@ -3,7 +3,7 @@ ghost use Rattle.std.specs.Prelude.{◌≡◌, ◌∷◌, ◌++◌, [], IfOk, On
 ghost use Rattle.std.specs.List.{flat_map};
 ghost use Rattle.policy_core.specs.PathOptions.{no_options};
 ghost use Rattle.policy_core.specs.PathTables.{base_of, said, said_for};
-ghost use Rattle.shaping_merge.specs.Laying.{laid_over};
+ghost use Rattle.shaping_merge.specs.inside.Laying.{laid_over};
 
 use crate::tables::tables_for;
 use kumo_base::{Items, Memory};
@@ -110,7 +110,7 @@ impl Merge {
     }
 
     /// Lays a layer over what there is.
-    #[tactic(auto, unfolding(crate::specs::Laying::laid_over))]
+    #[tactic(auto, unfolding(crate::specs::inside::Laying::laid_over))]
     fn add(&mut self, alloc: Global, options: &Options, rules: &[Rule]) -> Result<(), Memory>
         ensures { OnOk result (self.new ≡ laid_over self.old (record { options = options.now; rules = rules.now } ∷ [])) }
     {

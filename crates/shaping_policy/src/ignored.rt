@@ -4,7 +4,7 @@ ghost use Rattle.std.specs.List.{flat_map, list_any};
 ghost use Rattle.toml.specs.View.{items_view, table_view};
 ghost use Rattle.policy_toml.specs.Walks.{over_members};
 ghost use Rattle.shaping_policy.specs.RuleValues.{over_items};
-ghost use Rattle.shaping_policy.specs.Seen.{seen_rule, seen_table};
+ghost use Rattle.shaping_policy.specs.inside.Seen.{seen_rule, seen_table};
 ghost use Rattle.shaping_policy.specs.ShapingFile.{ignored_of_table, ignored_at_key, is_known_key, ignored_of_rule, ignored_at_rule_key, is_rule_key, actions_given, is_nothing};
 
 use crate::rule_values::action_at;

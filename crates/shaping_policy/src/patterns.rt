@@ -5,7 +5,7 @@ ghost use Rattle.toml.specs.View.{view, items_view};
 ghost use Rattle.kumo_outside.specs.Search.{HasSearchCause};
 ghost use Rattle.policy_core.specs.declared.fault.Why.TheVariants.{BadPattern, BadType};
 ghost use Rattle.policy_toml.specs.Places.{first_of, fault_in};
-ghost use Rattle.shaping_policy.specs.Seen.{seen_rule};
+ghost use Rattle.shaping_policy.specs.inside.Seen.{seen_rule};
 ghost use Rattle.shaping_policy.specs.RuleValues.{pattern_at};
 ghost use Rattle.shaping_policy.specs.Faults.{pattern_faults, faults_of_patterns, faults_of_list, faults_from, faults_of_read};
 

@@ -6,7 +6,7 @@ ghost use Rattle.policy_core.specs.declared.fault.Why.TheVariants.{BadType};
 ghost use Rattle.policy_toml.specs.Places.{first_of};
 ghost use Rattle.policy_toml.specs.Walks.{is_table};
 ghost use Rattle.shaping_policy.specs.RuleValues.{action_at};
-ghost use Rattle.shaping_policy.specs.Seen.{seen_rule};
+ghost use Rattle.shaping_policy.specs.inside.Seen.{seen_rule};
 ghost use Rattle.shaping_policy.specs.Faults.{faults_of_rule, faults_of_action, faults_of_list, faults_from, faults_of_one, faults_of_read, is_text};
 
 use crate::rule_values::{action_at, lasting_at, trigger_at};

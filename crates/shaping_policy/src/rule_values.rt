@@ -7,7 +7,7 @@ ghost use Rattle.toml.specs.View.{table_view, view};
 ghost use Rattle.policy_toml.specs.Walks.{ok_of};
 ghost use Rattle.shaping_policy.specs.RuleValues.{holds_only, action_named, action_of, config_of, config_in, action_in, action_at, threshold_of, threshold_in, trigger_in, trigger_at, lasting_at};
 ghost use Rattle.shaping_policy.specs.Faults.{match_in, match_at};
-ghost use Rattle.shaping_policy.specs.Suffixes.{match_of};
+ghost use Rattle.shaping_policy.specs.inside.Suffixes.{match_of};
 
 use crate::option_values::setting_at;
 use kumo_base::{Memory, Text};

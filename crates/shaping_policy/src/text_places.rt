@@ -3,8 +3,8 @@ ghost use Rattle.std.specs.Prelude.{◌≡◌, ◌+◌, ◌++◌, map, IfOk, OnO
 ghost use Rattle.std.specs.List.{flat_map};
 ghost use Rattle.toml.specs.View.{view, items_view};
 ghost use Rattle.policy_toml.specs.Places.{first_of};
-ghost use Rattle.shaping_policy.specs.Seen.{seen_rule};
-ghost use Rattle.shaping_policy.specs.TextPlaces.{seen_place};
+ghost use Rattle.shaping_policy.specs.inside.Seen.{seen_rule};
+ghost use Rattle.shaping_policy.specs.inside.TextPlaces.{seen_place};
 ghost use Rattle.shaping_policy.specs.Faults.{faults_of_many, text_places, text_places_from, text_places_of};
 
 use crate::patterns::PATTERN_COUNT_LIMIT;

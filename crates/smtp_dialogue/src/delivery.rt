@@ -7,10 +7,10 @@ ghost use Rattle.kumo_base.specs.Causes.{Rose};
 ghost use Rattle.smtp_reply.specs.Replies.{code_of, one_line_text};
 ghost use Rattle.smtp_reply.specs.ReplyText.{IsReplyText, IsProperOutcome};
 ghost use Rattle.smtp_reply.specs.declared.reply.Lost.TheVariants.{LinkFault, Ended};
-ghost use Rattle.smtp_dialogue.specs.Holding.{Holds, HoldsReply};
+ghost use Rattle.smtp_dialogue.specs.inside.Holding.{Holds, HoldsReply};
 ghost use Rattle.smtp_dialogue.specs.Transcript.{ends, is_positive, resets, refused, after_body, after_data, after_recipient, after_sender, attempted};
 ghost use Rattle.smtp_dialogue.specs.Speaks.{side, Speaks};
-ghost use Rattle.smtp_dialogue.specs.Tries.{Tries, IsDecided, standing_of};
+ghost use Rattle.smtp_dialogue.specs.inside.Tries.{Tries, IsDecided, standing_of};
 
 use crate::ask::{ask, ask_body, ask_code};
 use crate::scratch::Scratch;
