@@ -210,7 +210,8 @@ fn put_text(
     key: &str,
     text: &str,
 ) -> Result<(), Memory>
-    ensures { OnOk result (members_view line.new.entries ≡ with_member key.now (string text.now) (members_view line.old.entries)) }
+    ensures { OnOk result
+        (members_view line.new.entries ≡ with_member key.now (string text.now) (members_view line.old.entries)) }
 {
     put(line, alloc, key, Value::try_from_str(alloc, text)?)?;
     Ok(())
@@ -223,7 +224,8 @@ fn put_number(
     key: &str,
     number: u64,
 ) -> Result<(), Memory>
-    ensures { OnOk result (members_view line.new.entries ≡ with_member key.now (whole_number number) (members_view line.old.entries)) }
+    ensures { OnOk result
+        (members_view line.new.entries ≡ with_member key.now (whole_number number) (members_view line.old.entries)) }
 {
     put(line, alloc, key, Value::from(number))?;
     Ok(())

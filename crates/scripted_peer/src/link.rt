@@ -32,7 +32,13 @@ pub struct ScriptedLink {
 impl Model for ScriptedLink {
     ghost Value = { LinkState };
 
-    ghost view = { λ l. record { opening = record { place = l.place; host = l.host; source = l.source; uses = l.uses }; sent = l.peer.heard.items; got = take l.given l.peer.said.items; ended = l.ended; faults = l.faults } };
+    ghost view = { λ l. record {
+      opening = record { place = l.place; host = l.host; source = l.source; uses = l.uses };
+      sent = l.peer.heard.items;
+      got = take l.given l.peer.said.items;
+      ended = l.ended;
+      faults = l.faults;
+    } };
 
     ghost invariant = { λ l. l.given ≤ length l.peer.said.items };
 }
@@ -47,7 +53,13 @@ impl ScriptedLink {
         uses: [u32; KEY_COUNT],
         replies: PeerReplies,
     ) -> Result<ScriptedLink, Memory>
-        ensures { IfOk result (λ link. link ≡ record { opening = record { place = place; host = host.now; source = source.now; uses = uses }; sent = []; got = []; ended = false; faults = 0 }) }
+        ensures { IfOk result (λ link. link ≡ record {
+          opening = record { place = place; host = host.now; source = source.now; uses = uses };
+          sent = [];
+          got = [];
+          ended = false;
+          faults = 0;
+        }) }
     {
         Ok(ScriptedLink {
             place,
@@ -82,7 +94,15 @@ impl ScriptedLink {
 
     /// What went over the link.
     pub fn into_session(self) -> Session
-        ensures { result ≡ record { host = self.opening.host; source = self.opening.source; sent = self.sent; got = self.got; ended = self.ended; faults = self.faults; uses = self.opening.uses } }
+        ensures { result ≡ record {
+          host = self.opening.host;
+          source = self.opening.source;
+          sent = self.sent;
+          got = self.got;
+          ended = self.ended;
+          faults = self.faults;
+          uses = self.opening.uses;
+        } }
     {
         let ScriptedLink {
             place: _,
@@ -108,7 +128,13 @@ impl ScriptedLink {
 }
 
 impl Link for ScriptedLink {
-    ghost seen = { λ l. record { opening = l.opening; sent = Some l.sent; got = Some l.got; ended = l.ended; faults = l.faults } };
+    ghost seen = { λ l. record {
+      opening = l.opening;
+      sent = Some l.sent;
+      got = Some l.got;
+      ended = l.ended;
+      faults = l.faults;
+    } };
 
     #[tactic(auto, unfolding(kumo_outside::specs::Told::extended))]
     fn send(&mut self, piece: &[u8]) -> Result<usize, Failed>

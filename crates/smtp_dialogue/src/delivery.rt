@@ -87,7 +87,8 @@ fn after_sender<L: Link>(
 ) -> Tried
     requires { HoldsReply reader }
     ensures opening { (L.seen link.new).opening ≡ (L.seen link.old).opening }
-    ensures tries { (reply : List ℕ) → Holds reader reply → Tries (after_sender recipient.now body.now (code_of reply) (one_line_text reply))
+    ensures tries { (reply : List ℕ) → Holds reader reply
+        → Tries (after_sender recipient.now body.now (code_of reply) (one_line_text reply))
         (side (L.seen link.old) scratch.old)
         (side (L.seen link.new) scratch.new) result }
 {
@@ -147,7 +148,8 @@ fn after_data<L: Link>(
 /// The reply to the body is read, and decides.
 fn after_body(reply: Reply) -> Tried
     requires { IsReplyText reply.code reply.text }
-    ensures ends { (bytes : List ℕ) → after_body reply.code reply.text bytes ≡ ends (result.outcome ∷ []) (standing_of result.alive) bytes }
+    ensures ends { (bytes : List ℕ)
+        → after_body reply.code reply.text bytes ≡ ends (result.outcome ∷ []) (standing_of result.alive) bytes }
     ensures decided { IsDecided result.outcome }
     ensures delivered { (reply : Reply) → result.outcome ≡ Outcome.Delivered reply → result.alive ≡ true }
 {
