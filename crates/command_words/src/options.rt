@@ -1,4 +1,7 @@
 //! Options among words. They are read again for each question that is asked of them, so that nothing is kept.
+//!
+//! `command.rt` asks whether words are options, which value one has, and whether a command may have them. A few words are
+//! read a few times, and no memory is taken, so that a command line of any length is refused without one.
 ghost use Rattle.std.specs.Prelude.{◌≡◌, ◌<◌, ℕ, true, false, IfSome, MatchOption, is_some, option_map, length};
 ghost use Rattle.std.specs.List.{list_any, before_first, after_first};
 ghost use Rattle.command_words.specs.Options.{is_equals, is_value, options_in, value_of, are_allowed};

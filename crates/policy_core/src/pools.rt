@@ -1,4 +1,7 @@
 //! Whether the pools are there that the layers of queues name.
+//!
+//! `Policy::assemble` asks once, when the parts are put together. The walk over all layers keeps one name: of the tables that
+//! name a pool which is not there, the first in byte order. The one refusal is `Memory`.
 ghost use Rattle.std.specs.Prelude.{◌≡◌, ◌∷◌, ℕ, List, [], Option, Some, map, codes, OnOk, IfOk};
 ghost use Rattle.std.specs.List.{flat_map};
 ghost use Rattle.policy_core.specs.Policy.{has_pool, lacks_pool, earlier_text, below, placed, layers_of_tenant, layers_of_domain, unknown_pool};

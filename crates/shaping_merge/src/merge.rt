@@ -1,4 +1,8 @@
-//! What the tables for a path come to.
+//! What the tables for a path come to: its options and its rules, before any rule fires.
+//!
+//! `path_base` is asked for a path by `explain` today and by the registry later, which has to keep the answer. `Merge` keeps
+//! the layers laid so far; the order is that of `tables_for`, and of an option the last that sets it counts. The one refusal
+//! is `Memory`.
 ghost use Rattle.std.specs.Prelude.{◌≡◌, ◌∷◌, ◌++◌, [], IfOk, OnOk, map, find, bytes_eq, option_map};
 ghost use Rattle.std.specs.List.{flat_map};
 ghost use Rattle.policy_core.specs.PathOptions.{no_options};

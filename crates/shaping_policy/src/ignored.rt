@@ -1,4 +1,7 @@
 //! The keys of a shaping file that have no effect.
+//!
+//! `read_shaping` calls `ignored_in` where the document has no fault, with the tables and rules that were listed. Each
+//! function adds the keys of one kind of table to the list; `check` sorts them later. The one refusal is `Memory`.
 ghost use Rattle.std.specs.Prelude.{◌≡◌, ◌++◌, IfOk, OnOk, map};
 ghost use Rattle.std.specs.List.{flat_map, list_any};
 ghost use Rattle.toml.specs.View.{items_view, table_view};

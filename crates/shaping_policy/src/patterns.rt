@@ -1,4 +1,8 @@
 //! The search patterns of rules.
+//!
+//! `read_shaping` calls `note_patterns` after the other faults: each text of `regex` that is not too long is built by the
+//! caller's search engine, and one that is none is a fault. Nothing is kept. Where the engine fails, `Search` ends the read
+//! and no fault is reported.
 ghost use Rattle.std.specs.Prelude.{◌≡◌, ◌∷◌, [], map, codes, is_ok, IfOk, IfErr, OnOk};
 ghost use Rattle.std.specs.List.{flat_map};
 ghost use Rattle.toml.specs.View.{view, items_view};

@@ -1,4 +1,8 @@
 //! The faults of the rules of a shaping file, those of their patterns aside.
+//!
+//! `faults.rt` calls `note_rules` with the rules that `tables.rt` listed. Each fault goes to the one `FirstFault`, by the
+//! number of the rule's table in its list, and of its item where the value is a list. After `Memory` it may have seen some of
+//! them.
 ghost use Rattle.std.specs.Prelude.{◌≡◌, ◌||◌, OnOk, codes, map, option_map};
 ghost use Rattle.std.specs.List.{flat_map};
 ghost use Rattle.toml.specs.View.{table_view, view, items_view};

@@ -1,4 +1,8 @@
 //! The tables of a shaping file, each with its place.
+//!
+//! `read_shaping` lists them once, and every pass over the file (faults, patterns, keys without effect) is a loop over the
+//! list. So where a table stands, what it is for and how it is named is said here alone. The lists keep references into the
+//! document. The one refusal is `Memory`.
 ghost use Rattle.std.specs.Prelude.{◌≡◌, ◌++◌, IfOk, OnOk, map};
 ghost use Rattle.toml.specs.View.{items_view, table_view, view};
 ghost use Rattle.policy_toml.specs.Walks.{over_members};

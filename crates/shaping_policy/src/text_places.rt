@@ -1,4 +1,7 @@
 //! Where the texts of rules stand, and the first of them that is one too many.
+//!
+//! `patterns.rt` asks for it, since a file has at most 256 texts and the first past them, in the order of faults and not of
+//! the document, is at fault. The places are listed and sorted once. The one refusal is `Memory`.
 ghost use Rattle.std.specs.Prelude.{◌≡◌, ◌+◌, ◌++◌, map, IfOk, OnOk};
 ghost use Rattle.std.specs.List.{flat_map};
 ghost use Rattle.toml.specs.View.{view, items_view};
