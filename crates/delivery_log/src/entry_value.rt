@@ -1,4 +1,8 @@
 //! What the line of an entry says, as a JSON value: one function for each event.
+//!
+//! `entry_value` is what `line.rt` prints; it is held to `LogText` event by event, so that a new event does not compile until
+//! it has its line here. It keeps nothing. Keys are put in any order, and the map has them in byte order. Its one refusal is
+//! `Memory`.
 ghost use Rattle.std.specs.Prelude.{◌≡◌, IfOk, OnOk};
 ghost use Rattle.serde_json.specs.Data.{put as with_member, string};
 ghost use Rattle.serde_json.specs.View.{members_view, view};

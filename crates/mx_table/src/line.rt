@@ -1,4 +1,7 @@
-//! One line: its words, and the row that they are.
+//! One line of an MX table: its words, and the row that they are.
+//!
+//! `lib.rt` calls `row_of` for each line that is not empty. It keeps nothing, and answers a row, none for a comment or a line
+//! of blanks, the word of what is wrong with the line, or `Memory`.
 ghost use Rattle.std.specs.Prelude.{◌≡◌, ◌<◌, nat_lt, ◌==◌, ◌||◌, length, map, option_map, Ok, Some, IfOk, IfErr, IsTrue, string_bytes};
 ghost use Rattle.std.specs.List.{list_all};
 ghost use Rattle.std.specs.Str.{str_to_ascii_lowercase};

@@ -1,4 +1,9 @@
 //! A link to a scripted peer.
+//!
+//! A `ScriptedLinker` opens it, the dialogue sends and receives over it, and the linker takes it back. It keeps its peer and
+//! how many of the bytes that the peer said were given, so that its session can be told at the end. It takes each piece
+//! whole, is at its end where nothing is left to give, and fails only where the peer has no memory for a piece, which counts
+//! a fault.
 ghost use Rattle.std.specs.Prelude.{◌≡◌, ◌==◌, ◌<◌, ◌≤◌, [], length, take, IfOk, OnOk, OnErr, MatchResult, Some, false};
 ghost use Rattle.kumo_base.specs.Causes.{HasCause};
 ghost use Rattle.kumo_outside.specs.Devices.{one_more};

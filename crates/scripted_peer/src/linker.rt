@@ -1,4 +1,9 @@
 //! A linker whose links are to scripted peers.
+//!
+//! The worker opens its links here in place of a network. It keeps the session of each link, in the order of opening, and how
+//! often each key was said over the links to a host, which the session of a later link to it tells. The place of both is made
+//! when a link is opened, so that taking one back needs no memory. It fails only where there is none, and counts that as a
+//! fault.
 ghost use Rattle.std.specs.Prelude.{◌≡◌, ◌++◌, ◌∷◌, [], length, IfOk, OnOk, OnErr, Some, false};
 ghost use Rattle.kumo_base.specs.Causes.{HasCause};
 ghost use Rattle.kumo_outside.specs.Devices.{one_more};
