@@ -1,5 +1,5 @@
 pub mod Limits
 pub mod Options
 pub mod Commands
-pub mod Told
+pub mod SeenCommands
 pub mod inside

@@ -8,7 +8,7 @@ ghost use Rattle.kumo_base.specs.Limits.{latest_moment};
 ghost use Rattle.policy_core.specs.Policy.{has_pool, are_entrants_sources, are_sources_named, unknown_pool};
 ghost use Rattle.policy_core.specs.Mx.{are_hosts_named};
 ghost use Rattle.policy_core.specs.Limits.{unspecified};
-ghost use Rattle.command_words.specs.Told.{seen_names};
+ghost use Rattle.command_words.specs.SeenCommands.{seen_names};
 ghost use Rattle.policy_texts.specs.Policies.{Loads, Stops, HasCauseIn, counts_of};
 ghost use Rattle.policy_texts.specs.inside.Stages.{StopsAtPools, no_counts};
 

@@ -1,5 +1,5 @@
 -- What private functions and proofs cite. No public clause does.
 pub mod FirstLine
 pub mod Holding
-pub mod Steps
+pub mod Asking
 pub mod Tries

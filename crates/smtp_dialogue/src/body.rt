@@ -2,7 +2,7 @@
 ghost use Rattle.std.specs.Prelude.{◌≡◌, ◌<◌, ◌≤◌, ◌++◌, ◌∷◌, ℕ, List, length, position, MatchResult};
 ghost use Rattle.smtp_dialogue.specs.Body.{body_lines, stuffed, wire_line, wire};
 ghost use Rattle.smtp_dialogue.specs.inside.FirstLine.{is_line_end, line_length, behind_end};
-ghost use Rattle.smtp_dialogue.specs.inside.Steps.{Sends, FailsToSend};
+ghost use Rattle.smtp_dialogue.specs.inside.Asking.{Sends, FailsToSend};
 
 use crate::send::{send_all, send_three};
 use kumo_base::Failed;

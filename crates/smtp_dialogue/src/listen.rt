@@ -3,7 +3,7 @@ ghost use Rattle.std.specs.Prelude.{◌≡◌, ◌<◌, ◌≤◌, ◌+◌, ℕ,
 ghost use Rattle.smtp_reply.specs.Replies.{code_of};
 ghost use Rattle.smtp_dialogue.specs.inside.Holding.{Holds};
 ghost use Rattle.smtp_dialogue.specs.Speaks.{side};
-ghost use Rattle.smtp_dialogue.specs.inside.Steps.{Gets, IsCutOff, Hears};
+ghost use Rattle.smtp_dialogue.specs.inside.Asking.{Gets, IsCutOff, Hears};
 
 use crate::scratch::{Scratch, Unread};
 use kumo_outside::Link;
