@@ -2,9 +2,9 @@
 use Rattle.std.proofs.Common.{◌≡◌, ℕ, List, [], ◌∷◌, true, false, Bool, Option, Some, None, is_some, option_and_then, refl, sym, ap, ◌∙◌, cond, bytes_eq, codes}
 use Rattle.std.specs.List.{before_first, after_first}
 use Rattle.command_words.specs.Options.{Given, is_equals, has_equals, is_value, with_option, options_behind, options_in}
-use Rattle.command_words.specs.Walk.{given_before, given_behind, given_in}
+use Rattle.command_words.specs.inside.Walk.{given_before, given_behind, given_in}
 use Rattle.command_words.specs.Commands.{Command, if_allowed, command_with, command_of}
-use Rattle.command_words.specs.Verbs.{verb_of, names_of, command_by}
+use Rattle.command_words.specs.inside.Verbs.{verb_of, names_of, command_by}
 use Rattle.command_words.specs.declared.verb.Verb.{Verb}
 use Rattle.command_words.specs.declared.verb.Verb.TheVariants as verb
 

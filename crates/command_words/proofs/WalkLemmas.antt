@@ -4,7 +4,7 @@ use Rattle.std.proofs.lemmas.Bool.{and_right}
 use Rattle.std.specs.List.{list_any, list_all, before_first, after_first}
 use Rattle.command_words.specs.Options.{Given, is_equals, has_equals, is_value, with_option, options_in, is_named, value_of, is_among, are_allowed}
 use denote.Ref.{Bor}
-use Rattle.command_words.specs.Walk.{Front, front, front_of, front_behind, given_before, given_in}
+use Rattle.command_words.specs.inside.Walk.{Front, front, front_of, front_behind, given_before, given_in}
 
 -- what an option in front of words, or none, tells of them
 pub record IsBefore (words : List (List ℕ)) (f : Front) : Type 0 where

@@ -1,7 +1,5 @@
 pub mod Limits
 pub mod Options
-pub mod Walk
-pub mod Seen
-pub mod Verbs
 pub mod Commands
-pub mod Told
+pub mod SeenCommands
+pub mod inside

@@ -1,10 +1,13 @@
-//! The commands.
+//! The commands: what the program is asked to do, and the arguments that ask for it.
+//!
+//! The top call asks `command_of` once and does what it answers. A `Command` keeps references into the arguments and copies
+//! nothing. There is no fault to tell apart: arguments that are no command give `None`, which prints `error: usage`.
 ghost use Rattle.std.specs.Prelude.{◌≡◌, IfOk, IfSome, IsTrue, option_map, option_and_then};
 ghost use Rattle.queue_name.specs.QueueName.{is_name};
 ghost use Rattle.command_words.specs.Commands.{command_of, IsNamed, send, texts_of, question_in, question_about, name_asked, sending_in, workers_in, crew_in, load_in, given_moment, if_allowed};
-ghost use Rattle.command_words.specs.Told.{read_as, seen_names, seen_question, seen_sending};
-ghost use Rattle.command_words.specs.Walk.{given_in};
-ghost use Rattle.command_words.specs.Verbs.{names_of, command_by};
+ghost use Rattle.command_words.specs.SeenCommands.{read_as, seen_names, seen_question, seen_sending};
+ghost use Rattle.command_words.specs.inside.Walk.{given_in};
+ghost use Rattle.command_words.specs.inside.Verbs.{names_of, command_by};
 ghost use Rattle.command_words.specs.Options.{options_in, number_in};
 
 use crate::names::PolicyNames;

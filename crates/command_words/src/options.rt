@@ -1,10 +1,13 @@
 //! Options among words. They are read again for each question that is asked of them, so that nothing is kept.
+//!
+//! `command.rt` asks whether words are options, which value one has, and whether a command may have them. A few words are
+//! read a few times, and no memory is taken, so that a command line of any length is refused without one.
 ghost use Rattle.std.specs.Prelude.{◌≡◌, ◌<◌, ℕ, true, false, IfSome, MatchOption, is_some, option_map, length};
 ghost use Rattle.std.specs.List.{list_any, before_first, after_first};
 ghost use Rattle.command_words.specs.Options.{is_equals, is_value, options_in, value_of, are_allowed};
-ghost use Rattle.command_words.specs.Walk.{front, front_behind, front_of, given_in};
-ghost use Rattle.command_words.specs.Verbs.{names_of};
-ghost use Rattle.command_words.specs.Seen.{seen_front};
+ghost use Rattle.command_words.specs.inside.Walk.{front, front_behind, front_of, given_in};
+ghost use Rattle.command_words.specs.inside.Verbs.{names_of};
+ghost use Rattle.command_words.specs.inside.Seen.{seen_front};
 
 use crate::verb::Verb;
 use kumo_base::{Text, around_first};

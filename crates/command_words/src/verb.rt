@@ -2,7 +2,7 @@
 ghost use Rattle.std.specs.Prelude.{◌≡◌, bytes_eq};
 ghost use Rattle.std.specs.List.{list_any};
 ghost use Rattle.command_words.specs.Commands.{names_of_texts, names_of_name, names_of_mail};
-ghost use Rattle.command_words.specs.Verbs.{names_of, verb_of};
+ghost use Rattle.command_words.specs.inside.Verbs.{names_of, verb_of};
 
 /// What a command begins with.
 #[derive(Clone, Copy)]

@@ -1,4 +1,8 @@
 //! What the line of an entry says, as a JSON value: one function for each event.
+//!
+//! `entry_value` is what `line.rt` prints; it is held to `LogText` event by event, so that a new event does not compile until
+//! it has its line here. It keeps nothing. Keys are put in any order, and the map has them in byte order. Its one refusal is
+//! `Memory`.
 ghost use Rattle.std.specs.Prelude.{◌≡◌, IfOk, OnOk};
 ghost use Rattle.serde_json.specs.Data.{put as with_member, string};
 ghost use Rattle.serde_json.specs.View.{members_view, view};
@@ -210,7 +214,8 @@ fn put_text(
     key: &str,
     text: &str,
 ) -> Result<(), Memory>
-    ensures { OnOk result (members_view line.new.entries ≡ with_member key.now (string text.now) (members_view line.old.entries)) }
+    ensures { OnOk result
+        (members_view line.new.entries ≡ with_member key.now (string text.now) (members_view line.old.entries)) }
 {
     put(line, alloc, key, Value::try_from_str(alloc, text)?)?;
     Ok(())
@@ -223,7 +228,8 @@ fn put_number(
     key: &str,
     number: u64,
 ) -> Result<(), Memory>
-    ensures { OnOk result (members_view line.new.entries ≡ with_member key.now (whole_number number) (members_view line.old.entries)) }
+    ensures { OnOk result
+        (members_view line.new.entries ≡ with_member key.now (whole_number number) (members_view line.old.entries)) }
 {
     put(line, alloc, key, Value::from(number))?;
     Ok(())

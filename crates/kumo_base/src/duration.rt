@@ -1,4 +1,7 @@
 //! Durations as people write them: `1h 30 mins`. Readers of policies and of orders read their times here.
+//!
+//! `duration_of` goes over the text once, group by group of a number and a unit, and keeps the sum in milliseconds. It
+//! answers that sum, or the first fault and the place of its byte (`DurationFault`); it takes no memory.
 ghost use Rattle.std.specs.Prelude.{◌≡◌, ◌+◌, ◌*◌, ◌≤◌, ◌<◌, ℕ, min, IfOk, IfSome, MatchResult, Ok, Err, EachIndex, length, slice_index};
 ghost use Rattle.std.specs.List.{prefix_len};
 ghost use Rattle.std.specs.Char.{IsAsciiDigit, is_ascii_digit, is_ascii_alphabetic};

@@ -44,8 +44,8 @@ fresh o = record { host = o.host; source = o.source; sent = []; got = []; ended 
 abbrev pub IsAdded : Option (List Session) → Option (List Session) → LinkSeen → Type 0
 IsAdded None new link = new ≡ None
 IsAdded (Some sessions) new link =
-    (link.opening.place ≡ length sessions) × (new ≡ Some (sessions ++ fresh link.opening ∷ [])) × (link.sent ≡ Some []) × (link.got ≡ Some [])
-    × (link.faults ≡ 0)
+    (link.opening.place ≡ length sessions) × (new ≡ Some (sessions ++ fresh link.opening ∷ []))
+    × (link.sent ≡ Some []) × (link.got ≡ Some []) × (link.faults ≡ 0)
 
 -- opening a link adds its session; a linker that tells nothing goes on telling nothing
 pub record Opens (old new : Option (List Session)) (host source : List ℕ) (link : LinkSeen) : Type 0 where
@@ -58,7 +58,8 @@ pub record Opens (old new : Option (List Session)) (host source : List ℕ) (lin
 abbrev pub GivesBack : Option (List Session) → Option (List Session) → LinkSeen → Type 0
 GivesBack None new link = new ≡ None
 GivesBack (Some sessions) new link =
-    (sent : List ℕ) (got : List ℕ) → link.sent ≡ Some sent → link.got ≡ Some got → new ≡ Some (set sessions link.opening.place (session_of link sent got))
+    (sent : List ℕ) (got : List ℕ) → link.sent ≡ Some sent → link.got ≡ Some got
+    → new ≡ Some (set sessions link.opening.place (session_of link sent got))
 
 -- the session at the link's place is that of a link just opened so: the linker opened it and it was not given back
 abbrev pub IsOpenAt : Option (List Session) → Opening → Type 0

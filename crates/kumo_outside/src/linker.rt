@@ -17,7 +17,8 @@ pub trait Linker {
     /// Opens a link to a host from a source. An open that fails leaves no session, and the count of
     /// faults has risen.
     fn open(&mut self, host: &str, source: &str) -> Result<Self::Link, Failed>
-        ensures opened { IfOk result (λ link. Opens (seen self.old).sessions (seen self.new).sessions host.now source.now (Self.Link.seen link)) }
+        ensures opened { IfOk result (λ link.
+            Opens (seen self.old).sessions (seen self.new).sessions host.now source.now (Self.Link.seen link)) }
         ensures failed { OnErr result ((seen self.new).sessions ≡ (seen self.old).sessions) }
         ensures cause { HasCause (seen self.old).faults (seen self.new).faults result };
 

@@ -53,7 +53,8 @@ impl Sink for MemSink {
     fn put(&mut self, piece: &[u8]) -> Result<usize, Failed>
         requires { 0 < length piece.now }
         ensures taken { IfOk result (λ n. (0 < n) × (n ≤ length piece.now)) }
-        ensures bytes { MatchResult result (λ n. Some self.new.bytes ≡ extended (Some self.old.bytes) (take n piece.now)) (λ _. Some self.new.bytes ≡ Some self.old.bytes) }
+        ensures bytes { MatchResult result (λ n. Some self.new.bytes ≡ extended (Some self.old.bytes) (take n piece.now))
+            (λ _. Some self.new.bytes ≡ Some self.old.bytes) }
         ensures cause { HasCause self.old.faults self.new.faults result }
         ensures uncounted { OnOk result (self.new.faults ≡ self.old.faults) }
         ensures counted { OnErr result (self.new.faults ≡ one_more self.old.faults) }

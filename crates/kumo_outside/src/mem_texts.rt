@@ -48,7 +48,8 @@ impl Texts for MemTexts {
         ensures cause { HasCause self.old.faults self.new.faults result }
         ensures uncounted { OnOk result (self.new.faults ≡ self.old.faults) }
         ensures counted { OnErr result (self.new.faults ≡ one_more self.old.faults) }
-        ensures reads { is_ok result ≡ (not (is_failing self.old.failing (one_more self.old.calls)) && is_some (text_at self.old.texts name.now)) }
+        ensures reads { is_ok result
+            ≡ (not (is_failing self.old.failing (one_more self.old.calls)) && is_some (text_at self.old.texts name.now)) }
         ensures counts { (self.new.calls ≡ one_more self.old.calls) × (self.new.failing ≡ self.old.failing) }
     {
         self.calls = self.calls.saturating_add(1);

@@ -1,4 +1,8 @@
-//! Searches by the crate `regex`.
+//! Searches by the crate `regex`: the device behind the trait `Search` that the program uses.
+//!
+//! It keeps no compiled pattern, only the calls made, those that are to fail (for tests) and the faults counted. `main` makes
+//! one and hands it to the top call. Each call answers what the grammar of `regex` says, or `Search` with one more fault
+//! counted, or `Memory` without.
 ghost use Rattle.std.specs.Prelude.{◌≡◌, ◌≢◌, ℕ, false, Some, Err, is_some, IfOk, IfErr, IfSome, IsTrue};
 ghost use Rattle.kumo_outside.specs.Devices.{SearchState, is_failing, one_more};
 ghost use Rattle.kumo_outside.specs.Search.{is_pattern, found, HasSearchCause, IsCompiledFrom};

@@ -15,7 +15,8 @@ pub trait Sink {
     fn put(&mut self, piece: &[u8]) -> Result<usize, Failed>
         requires { 0 < length piece.now }
         ensures taken { IfOk result (λ n. (0 < n) × (n ≤ length piece.now)) }
-        ensures bytes { MatchResult result (λ n. (seen self.new).told ≡ extended (seen self.old).told (take n piece.now)) (λ _. (seen self.new).told ≡ (seen self.old).told) }
+        ensures bytes { MatchResult result (λ n. (seen self.new).told ≡ extended (seen self.old).told (take n piece.now))
+            (λ _. (seen self.new).told ≡ (seen self.old).told) }
         ensures cause { HasCause (seen self.old).faults (seen self.new).faults result };
 }
 

@@ -1,7 +1,10 @@
 //! The texts that `check` and `explain` print: they load the policy texts up to a whole policy, and then say what is in it.
+//!
+//! `run.rt` calls `check_text` and `explain_text` and prints what they give. Nothing is kept between two calls. They answer
+//! the text, or the `Refusal` that the first fault of loading becomes, or that of memory.
 ghost use Rattle.std.specs.Prelude.{◌≡◌, ◌≤◌, IfOk, IfErr, IsTrue, string_bytes};
 ghost use Rattle.queue_name.specs.QueueName.{is_name};
-ghost use Rattle.command_words.specs.Told.{seen_names, seen_question};
+ghost use Rattle.command_words.specs.SeenCommands.{seen_names, seen_question};
 ghost use Rattle.policy_texts.specs.Report.{IsReport};
 ghost use Rattle.policy_texts.specs.Explained.{explanation};
 ghost use Rattle.kumo_run.specs.PolicyAnswers.{IsCheckText, IsExplainText};

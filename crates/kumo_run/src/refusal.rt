@@ -1,4 +1,9 @@
 //! Why no work was done, and the one line that is printed of it.
+//!
+//! Every command that is refused ends as a `Refusal`, which `run.rt` prints once and whose status it hands out. The line is
+//! put piece by piece, without memory, so that it can be printed when memory is what is missing. A sink that fails on it
+//! changes nothing: the refusal stays what it is. A new reason needs its line and its status in `specs/RefusalLine.antt`, and
+//! its cause in `specs/Causes.antt`.
 ghost use Rattle.std.specs.Prelude.{◌≡◌, ◌≤◌, ◌++◌, OnOk, OnErr, codes, decimal};
 ghost use Rattle.kumo_base.specs.Causes.{Rose, HasCause};
 ghost use Rattle.kumo_outside.specs.Told.{extended, TakesFront};

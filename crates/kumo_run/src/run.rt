@@ -6,7 +6,7 @@ ghost use Rattle.std.specs.Prelude.{◌≡◌, ◌≤◌, [], None, Some, IsTrue
 ghost use Rattle.queue_name.specs.QueueName.{is_name};
 ghost use Rattle.kumo_outside.specs.Search.{SearchSeen};
 ghost use Rattle.command_words.specs.Commands.{check, explain, send};
-ghost use Rattle.command_words.specs.Told.{seen_names, seen_question, seen_sending};
+ghost use Rattle.command_words.specs.SeenCommands.{seen_names, seen_question, seen_sending};
 ghost use Rattle.delivery_log.specs.LogText.{log_text};
 ghost use Rattle.kumo_run.specs.StatusCode.{number_of};
 ghost use Rattle.kumo_run.specs.RefusalLine.{refusal_line, status_of};

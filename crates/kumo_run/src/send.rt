@@ -1,4 +1,9 @@
 //! The sending of a mail text, before its log is written: the text is read, and its message is sent over a linker.
+//!
+//! `run.rt` calls `send_mail_text`, and tests call it with other replies. It keeps nothing; the linker that it used is added
+//! to the caller's list, so that its session can be told. It answers the history of a run that went to its end, or the
+//! `Refusal` that ended it: what is read is refused before a link is opened, and only `NotYetReply` and `Memory` may come
+//! after one.
 ghost use Rattle.std.specs.Prelude.{◌≡◌, [], ◌∷◌, IfOk, IfErr, IfSome, All};
 ghost use Rattle.queue_name.specs.Message.{IsProperMessage};
 ghost use Rattle.mail_input.specs.Inputs.{messages};

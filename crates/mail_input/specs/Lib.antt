@@ -1,4 +1,4 @@
 pub mod Limits
 pub mod Fields
 pub mod Inputs
-pub mod Ids
+pub mod inside

@@ -1,4 +1,7 @@
 //! The fields of a mail line. Each function reads one field from the line's object, or says why the line is refused.
+//!
+//! `line.rt` calls them in the order in which faults of one line are tried. Nothing is kept and no text is copied; a refusal
+//! is the `MailWhy` of the field, and none of them takes memory.
 ghost use Rattle.std.specs.Prelude.{◌≡◌, ◌≤◌, ◌⊎◌, [], length, option_map, Ok, Err, IfOk, IfErr, IsTrue};
 ghost use Rattle.std.specs.Int.{w128, from_be_bytes};
 ghost use Rattle.serde_json.specs.Find.{get};

@@ -5,7 +5,7 @@ ghost use Rattle.queue_name.specs.Message.{IsProperMessage};
 ghost use Rattle.queue_name.specs.declared.message.Message as seen;
 ghost use Rattle.mail_input.specs.Fields.{IsCauseOf};
 ghost use Rattle.mail_input.specs.Inputs.{with_message, with_line};
-ghost use Rattle.mail_input.specs.Ids.{HasIds};
+ghost use Rattle.mail_input.specs.inside.Ids.{HasIds};
 
 use crate::fault::LineFault;
 use crate::line::read_line;

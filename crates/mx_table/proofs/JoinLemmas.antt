@@ -14,7 +14,7 @@ use Rattle.std.proofs.lemmas.Slice.Eq.{bytes_eq-Decides}
 use Rattle.policy_core.specs.declared.mx.MxRow.{MxRow}
 use Rattle.policy_core.specs.Mx.{comes_before, ascend_behind, ascend, has_hosts, is_mx_table}
 use Rattle.mx_table.specs.MxText.{row, gives, Joins}
-use Rattle.mx_table.specs.Joined.{by_domain, domains, joined_behind, joined}
+use Rattle.mx_table.specs.inside.Joined.{by_domain, domains, joined_behind, joined}
 
 -- whether a row gives a domain a host
 abbrev pub given : List ℕ → List ℕ → MxRow → Bool

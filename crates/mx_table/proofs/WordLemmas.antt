@@ -6,7 +6,7 @@ use Rattle.policy_core.specs.Names.{is_host_name}
 use Rattle.mx_table.specs.declared.fault.RowFault.{RowFault}
 use Rattle.mx_table.specs.declared.fault.RowFault.TheVariants.{Refused, Memory}
 use Rattle.mx_table.specs.MxText.{name_of, row_named, row_of_words}
-use Rattle.mx_table.specs.Causes.{IsBadName}
+use Rattle.mx_table.specs.inside.Causes.{IsBadName}
 
 named : (words : List (Bor (List ℕ))) → map name_of (map (λ word. word.now) words) ≡ map (λ word. name_of word.now) words
 named [] = refl

@@ -1,3 +1,2 @@
 pub mod MxText
-pub mod Causes
-pub mod Joined
+pub mod inside

@@ -1,7 +1,7 @@
 //! Why one line gives no row, and the refusal that is reported of a text.
 ghost use Rattle.std.specs.Prelude.{◌≡◌, ◌++◌, IfOk, codes, decimal};
 ghost use Rattle.mx_table.specs.MxText.{line_fault};
-ghost use Rattle.mx_table.specs.Causes.{IsReport};
+ghost use Rattle.mx_table.specs.inside.Causes.{IsReport};
 
 use itoa::Buffer;
 use kumo_base::{Memory, Text};

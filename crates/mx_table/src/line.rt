@@ -1,10 +1,13 @@
-//! One line: its words, and the row that they are.
+//! One line of an MX table: its words, and the row that they are.
+//!
+//! `lib.rt` calls `row_of` for each line that is not empty. It keeps nothing, and answers a row, none for a comment or a line
+//! of blanks, the word of what is wrong with the line, or `Memory`.
 ghost use Rattle.std.specs.Prelude.{◌≡◌, ◌<◌, nat_lt, ◌==◌, ◌||◌, length, map, option_map, Ok, Some, IfOk, IfErr, IsTrue, string_bytes};
 ghost use Rattle.std.specs.List.{list_all};
 ghost use Rattle.std.specs.Str.{str_to_ascii_lowercase};
 ghost use Rattle.policy_core.specs.Names.{is_host_name};
 ghost use Rattle.mx_table.specs.MxText.{is_space, words_of, without_dot, name_of, row_named, row_of_words, is_comment, row_of};
-ghost use Rattle.mx_table.specs.Causes.{IsCauseOf, IsBadName};
+ghost use Rattle.mx_table.specs.inside.Causes.{IsCauseOf, IsBadName};
 
 use crate::fault::RowFault;
 use crate::push;

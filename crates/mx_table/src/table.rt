@@ -4,7 +4,7 @@ ghost use Rattle.std.specs.List.{list_all};
 ghost use Rattle.std.specs.List.Sorted.{IsPermutation, IsSortedBy};
 ghost use Rattle.policy_core.specs.Mx.{has_hosts};
 ghost use Rattle.mx_table.specs.MxText.{Joins};
-ghost use Rattle.mx_table.specs.Joined.{by_domain, domains, joined};
+ghost use Rattle.mx_table.specs.inside.Joined.{by_domain, domains, joined};
 
 use crate::row::Row;
 use kumo_base::{Items, Memory};

@@ -6,7 +6,7 @@ use Rattle.policy_core.specs.declared.sources.Sources.{Sources}
 use Rattle.policy_core.specs.declared.queues.Queues.{Queues}
 use Rattle.policy_core.specs.declared.pools.PoolCheck.{PoolCheck}
 use Rattle.policy_core.specs.Policy.{PlacedLayer, least_text, earlier_text, lacks_pool, places_of_unknown, placed_layers, unknown_pool}
-use Rattle.policy_core.specs.PoolCheck.{with_layers}
+use Rattle.policy_core.specs.inside.PoolCheck.{with_layers}
 
 -- the first of some and then of others
 pub least_of_append : (best : Option (List ℕ)) (xs ys : List (List ℕ)) → least_text best (xs ++ ys) ≡ least_text (least_text best xs) ys

@@ -5,8 +5,8 @@ pub mod PathOptions
 pub mod OptionNames
 pub mod Mx
 pub mod Policy
-pub mod PoolCheck
 pub mod Site
 pub mod PathTables
 pub mod Rotation
 pub mod Words
+pub mod inside

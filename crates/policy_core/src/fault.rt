@@ -1,4 +1,8 @@
 //! Why a policy text is refused, and which of its keys have no effect.
+//!
+//! All readers of policy texts answer these types, and the top call prints their words. `Why` has one variant for each word,
+//! in one list for all files. The types keep the place as texts of their own, so that a fault outlives the file; copying one
+//! may answer `Memory`.
 ghost use Rattle.std.specs.Prelude.{◌≡◌, IfOk};
 ghost use Rattle.policy_core.specs.Words.{name_of_file, name_of_why};
 

@@ -1,8 +1,11 @@
 //! Whether the pools are there that the layers of queues name.
+//!
+//! `Policy::assemble` asks once, when the parts are put together. The walk over all layers keeps one name: of the tables that
+//! name a pool which is not there, the first in byte order. The one refusal is `Memory`.
 ghost use Rattle.std.specs.Prelude.{◌≡◌, ◌∷◌, ℕ, List, [], Option, Some, map, codes, OnOk, IfOk};
 ghost use Rattle.std.specs.List.{flat_map};
 ghost use Rattle.policy_core.specs.Policy.{has_pool, lacks_pool, earlier_text, below, placed, layers_of_tenant, layers_of_domain, unknown_pool};
-ghost use Rattle.policy_core.specs.PoolCheck.{name_above, layer_at, with_layers};
+ghost use Rattle.policy_core.specs.inside.PoolCheck.{name_above, layer_at, with_layers};
 
 use crate::queues::{DomainQueues, NamedLayer, Queues, TenantQueues};
 use crate::settings::Layer;
@@ -86,7 +89,7 @@ fn below(alloc: Global, above: &str, table: &str) -> Result<Text, Memory>
 
 impl<'s> PoolCheck<'s> {
     /// Adds the layer of a table.
-    #[tactic(auto, unfolding(crate::specs::PoolCheck::with_layers))]
+    #[tactic(auto, unfolding(crate::specs::inside::PoolCheck::with_layers))]
     fn add_layer(
         &mut self,
         alloc: Global,

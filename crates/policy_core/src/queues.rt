@@ -1,4 +1,7 @@
 //! The settings of all queues, in layers by tenant, domain and campaign.
+//!
+//! The reader of a queues file makes these lists, and `settings_for` looks a name's layers up in them. They are plain data: a
+//! hand-made list may have a name twice, and then the first counts. Copies are equal; the one refusal is `Memory`.
 ghost use Rattle.std.specs.Prelude.{◌≡◌, IfOk};
 
 use crate::copying::{TryCopy, copy_items};

@@ -1,5 +1,8 @@
-//! What a shaping file says: the options and rules of paths by receiver, and by source within a receiver (KumoMTA's
-//! shaping helper).
+//! What a shaping file says: the options and rules of paths by receiver, and by source within a receiver (KumoMTA's shaping
+//! helper).
+//!
+//! The reader of a shaping file makes these lists, and `shaping_merge` lays the tables of a path over one another. They are
+//! plain data: of equal names in a hand-made list the first counts. Copies are equal; the one refusal is `Memory`.
 ghost use Rattle.std.specs.Prelude.{◌≡◌, IfOk};
 
 use crate::copying::{TryCopy, copy_items};

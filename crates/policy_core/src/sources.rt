@@ -1,5 +1,8 @@
-//! The sources that mail leaves by, and the pools that share a queue's mail among them (KumoMTA's egress sources and
-//! egress pools).
+//! The sources that mail leaves by, and the pools that share a queue's mail among them (KumoMTA's egress sources and egress
+//! pools).
+//!
+//! The reader of a sources file makes these lists, and the turner of a pool takes its weights from them. They are plain data;
+//! that every entrant has a source is kept by `Policy`. Copies are equal; the one refusal is `Memory`.
 ghost use Rattle.std.specs.Prelude.{◌≡◌, IfOk};
 
 use crate::copying::{TryCopy, copy_items};

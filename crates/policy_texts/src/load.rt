@@ -1,10 +1,14 @@
 //! Reading policy texts and putting them together.
+//!
+//! `load_policy` is what `check` and `explain` rest on: it has each text read (`stages.rt`) in the order sources, queues,
+//! shaping, MX table, hands what it gives to the next step, and assembles the policy. It keeps nothing but what it answers:
+//! the policy and the keys without effect, or the first fault (`LoadFault`), each of which has its cause in the contract.
 ghost use Rattle.std.specs.Prelude.{◌≡◌, ◌≤◌, ◌∷◌, [], None, IsTrue, IfOk, IfErr};
 ghost use Rattle.kumo_base.specs.Limits.{latest_moment};
 ghost use Rattle.policy_core.specs.Policy.{has_pool, are_entrants_sources, are_sources_named, unknown_pool};
 ghost use Rattle.policy_core.specs.Mx.{are_hosts_named};
 ghost use Rattle.policy_core.specs.Limits.{unspecified};
-ghost use Rattle.command_words.specs.Told.{seen_names};
+ghost use Rattle.command_words.specs.SeenCommands.{seen_names};
 ghost use Rattle.policy_texts.specs.Policies.{Loads, Stops, HasCauseIn, counts_of};
 ghost use Rattle.policy_texts.specs.inside.Stages.{StopsAtPools, no_counts};
 

@@ -1,4 +1,7 @@
 //! One policy text after another: the bytes of its name, and what they give.
+//!
+//! `load.rt` calls the four functions `take_..` in the order of work. Each reads its text whole, or nothing where no name is
+//! given, and answers what the reader of that file gives, or the `LoadFault` of reading, of the limit or of the reader.
 ghost use Rattle.std.specs.Prelude.{◌≡◌, ◌≤◌, List, IsTrue, Ok, Err, IfOk, IfErr, IfSome};
 ghost use Rattle.kumo_outside.specs.Reading.{IsReadUpTo};
 ghost use Rattle.kumo_outside.specs.declared.text_reader.TheConstants.{TEXT_LIMIT};

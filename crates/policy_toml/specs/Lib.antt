@@ -2,6 +2,6 @@ pub mod Places
 pub mod Values
 pub mod Walks
 pub mod Reports
-pub mod Unread
 pub mod Domains
 pub mod Order
+pub mod inside

@@ -1,4 +1,8 @@
 //! The document of a policy file and its tables.
+//!
+//! The three readers of TOML files open their document here and look into its tables by these functions, so that what counts
+//! as a table, as a value at a key and as the name of a table is said once. Nothing is kept. A text that is no TOML in UTF-8
+//! is refused as a whole, by `NotToml` at `-`; else the one refusal is `Memory`.
 ghost use Rattle.std.specs.Prelude.{◌≡◌, [], IfOk, IfErr, Some, option_map};
 ghost use Rattle.toml.specs.Data.{get_member, as_table};
 ghost use Rattle.toml.specs.View.{table_view, view};
@@ -7,7 +11,7 @@ ghost use Rattle.policy_toml.specs.Places.{joined, fault, whole_table};
 ghost use Rattle.policy_toml.specs.Reports.{IsReport, IsUnopened};
 ghost use Rattle.policy_toml.specs.Values.{document_in};
 ghost use Rattle.policy_toml.specs.Walks.{is_table, table_at};
-ghost use Rattle.policy_toml.specs.Unread.{IsUnread};
+ghost use Rattle.policy_toml.specs.inside.Unread.{IsUnread};
 
 use crate::fault::{Fault, WHOLE_TABLE};
 use kumo_base::{Memory, Text, utf8_in};

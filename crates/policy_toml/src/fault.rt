@@ -1,4 +1,8 @@
 //! The faults of a file, of which one is reported.
+//!
+//! A reader goes over its whole document with one `FirstFault` and notes every fault in it; `FirstFault` keeps the one that
+//! comes first by place, so that the order of the reader's steps does not matter. Where none was noted the reader makes its
+//! data, and else `reported` gives the fault the form that is printed. `Memory` leaves the kept fault as it was.
 ghost use Rattle.std.specs.Prelude.{◌≡◌, ◌∷◌, ◌==◌, ℕ, List, [], Option, Some, None, IfOk, OnOk, OnErr};
 ghost use Rattle.std.specs.Ordering.{is_lt};
 ghost use Rattle.policy_toml.specs.Places.{first_of, fault, fault_cmp, rank_of, fault_in, named, named_with, numbered};

@@ -1,4 +1,8 @@
 //! Addresses of envelopes, and the domains that they route by. Readers of mail and of orders test addresses here.
+//!
+//! Nothing is kept. `is_address` and `is_domain_of` take no memory; `domain_of` makes a text of its own and answers `Memory`
+//! where there is none. A domain that holds a mark of a site's name routes nowhere, so that sites are told apart by their
+//! names.
 ghost use Rattle.std.specs.Prelude.{◌≡◌, ◌==◌, ◌&&◌, not, true, false, IfOk, MatchOption, IsTrue, None, bytes_eq};
 ghost use Rattle.std.specs.List.{list_all, list_any, before_last, after_last};
 ghost use Rattle.std.specs.Char.{to_ascii_lowercase};

@@ -1,4 +1,8 @@
 //! Reads the name of a queue from its spelling. Orders and mail lines name queues so.
+//!
+//! `QueueName::parse` looks for a byte that may not stand where it stands, cuts the text at its first `@` and `:`, and then
+//! copies the parts. It keeps nothing. It answers the name, or the first `NameFault` in the order in which they are listed,
+//! with the place of the byte.
 ghost use Rattle.std.specs.Prelude.{◌≡◌, ◌==◌, ◌&&◌, ◌||◌, [], not, ℕ, List, Option, Some, None, Ok, Err, IfOk, IfErr, MatchOption, option_map, true, false, length};
 ghost use Rattle.std.specs.List.{list_any, position, before_first, after_first};
 ghost use Rattle.queue_name.specs.Address.{is_at};

@@ -1,2 +1,2 @@
 pub mod QueuesFile
-pub mod InForce
+pub mod inside

@@ -1,4 +1,8 @@
 //! The faults of a queues file.
+//!
+//! `read_queues` calls `faults_in` before it makes any data. Each function goes over one part of the document (tenants,
+//! domains, the tenants of a domain, their campaigns) and hands every fault to the one `FirstFault`, which keeps the first by
+//! place. After `Memory` it may have seen some of them.
 ghost use Rattle.std.specs.Prelude.{◌≡◌, ℕ, List, [], Bool, IfOk, OnOk, None, codes};
 ghost use Rattle.std.specs.BTreeSet.{contains_text};
 ghost use Rattle.toml.specs.View.{table_view, view};

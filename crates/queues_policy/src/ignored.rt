@@ -1,4 +1,7 @@
 //! The keys of a queues file that have no effect.
+//!
+//! `read_queues` calls `ignored_in` where the document has no fault. Each function adds the keys of one part to the list, in
+//! the order of the document; `check` sorts them later. The one refusal is `Memory`.
 ghost use Rattle.std.specs.Prelude.{◌≡◌, ◌++◌, IfOk, OnOk};
 ghost use Rattle.toml.specs.View.{table_view, view};
 ghost use Rattle.policy_toml.specs.Walks.{over_members};

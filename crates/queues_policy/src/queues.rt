@@ -1,4 +1,7 @@
 //! The layers that a document without faults gives.
+//!
+//! `read_queues` calls `queues_in` last. Nothing is tested here a second time: what a fault would have refused is not there.
+//! Domains are put in the order of their names as they come. The one refusal is `Memory`.
 ghost use Rattle.std.specs.Prelude.{◌≡◌, ◌++◌, IfOk, OnOk, [], codes, option_map};
 ghost use Rattle.toml.specs.View.{table_view, view};
 ghost use Rattle.policy_toml.specs.Walks.{over_members, members_at};

@@ -1,7 +1,11 @@
 //! The settings of a queue: the layers of its name, one over another.
+//!
+//! `settings_for` is asked for a queue's name, by `explain` today and by the registry later, which has to keep the answer:
+//! each call goes through the domains of the file. Layers are laid by reference, and only the pool's name is copied at the
+//! end, so that the one refusal is `Memory`.
 ghost use Rattle.std.specs.Prelude.{◌≡◌, [], IfOk, find, bytes_eq, unwrap_or, option_map, option_and_then};
 ghost use Rattle.policy_core.specs.Layers.{settings_of, settings_in, queues_of_domain, tenant_layer, layer_named};
-ghost use Rattle.queues_policy.specs.InForce.{settings_now, over, tenant_within, campaign_within};
+ghost use Rattle.queues_policy.specs.inside.InForce.{settings_now, over, tenant_within, campaign_within};
 
 use kumo_base::{Memory, Text};
 use policy_core::{

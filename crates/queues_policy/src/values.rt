@@ -1,4 +1,7 @@
 //! The settings that stand in the tables of a queues file.
+//!
+//! The walks over the document (`faults.rt`, `ignored.rt`, `queues.rt`) ask here which key is a setting and what its value
+//! gives, so that the three agree. Nothing is kept. A value that is refused gives the word of what is wrong with it.
 ghost use Rattle.std.specs.Prelude.{◌≡◌, IfOk, option_map, codes};
 ghost use Rattle.toml.specs.View.{table_view, view};
 ghost use Rattle.policy_toml.specs.Values.{text_in, duration_at};

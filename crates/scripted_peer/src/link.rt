@@ -1,4 +1,9 @@
 //! A link to a scripted peer.
+//!
+//! A `ScriptedLinker` opens it, the dialogue sends and receives over it, and the linker takes it back. It keeps its peer and
+//! how many of the bytes that the peer said were given, so that its session can be told at the end. It takes each piece
+//! whole, is at its end where nothing is left to give, and fails only where the peer has no memory for a piece, which counts
+//! a fault.
 ghost use Rattle.std.specs.Prelude.{◌≡◌, ◌==◌, ◌<◌, ◌≤◌, [], length, take, IfOk, OnOk, OnErr, MatchResult, Some, false};
 ghost use Rattle.kumo_base.specs.Causes.{HasCause};
 ghost use Rattle.kumo_outside.specs.Devices.{one_more};
@@ -32,7 +37,13 @@ pub struct ScriptedLink {
 impl Model for ScriptedLink {
     ghost Value = { LinkState };
 
-    ghost view = { λ l. record { opening = record { place = l.place; host = l.host; source = l.source; uses = l.uses }; sent = l.peer.heard.items; got = take l.given l.peer.said.items; ended = l.ended; faults = l.faults } };
+    ghost view = { λ l. record {
+      opening = record { place = l.place; host = l.host; source = l.source; uses = l.uses };
+      sent = l.peer.heard.items;
+      got = take l.given l.peer.said.items;
+      ended = l.ended;
+      faults = l.faults;
+    } };
 
     ghost invariant = { λ l. l.given ≤ length l.peer.said.items };
 }
@@ -47,7 +58,13 @@ impl ScriptedLink {
         uses: [u32; KEY_COUNT],
         replies: PeerReplies,
     ) -> Result<ScriptedLink, Memory>
-        ensures { IfOk result (λ link. link ≡ record { opening = record { place = place; host = host.now; source = source.now; uses = uses }; sent = []; got = []; ended = false; faults = 0 }) }
+        ensures { IfOk result (λ link. link ≡ record {
+          opening = record { place = place; host = host.now; source = source.now; uses = uses };
+          sent = [];
+          got = [];
+          ended = false;
+          faults = 0;
+        }) }
     {
         Ok(ScriptedLink {
             place,
@@ -82,7 +99,15 @@ impl ScriptedLink {
 
     /// What went over the link.
     pub fn into_session(self) -> Session
-        ensures { result ≡ record { host = self.opening.host; source = self.opening.source; sent = self.sent; got = self.got; ended = self.ended; faults = self.faults; uses = self.opening.uses } }
+        ensures { result ≡ record {
+          host = self.opening.host;
+          source = self.opening.source;
+          sent = self.sent;
+          got = self.got;
+          ended = self.ended;
+          faults = self.faults;
+          uses = self.opening.uses;
+        } }
     {
         let ScriptedLink {
             place: _,
@@ -108,7 +133,13 @@ impl ScriptedLink {
 }
 
 impl Link for ScriptedLink {
-    ghost seen = { λ l. record { opening = l.opening; sent = Some l.sent; got = Some l.got; ended = l.ended; faults = l.faults } };
+    ghost seen = { λ l. record {
+      opening = l.opening;
+      sent = Some l.sent;
+      got = Some l.got;
+      ended = l.ended;
+      faults = l.faults;
+    } };
 
     #[tactic(auto, unfolding(kumo_outside::specs::Told::extended))]
     fn send(&mut self, piece: &[u8]) -> Result<usize, Failed>

@@ -1,4 +1,9 @@
 //! A linker whose links are to scripted peers.
+//!
+//! The worker opens its links here in place of a network. It keeps the session of each link, in the order of opening, and how
+//! often each key was said over the links to a host, which the session of a later link to it tells. The place of both is made
+//! when a link is opened, so that taking one back needs no memory. It fails only where there is none, and counts that as a
+//! fault.
 ghost use Rattle.std.specs.Prelude.{◌≡◌, ◌++◌, ◌∷◌, [], length, IfOk, OnOk, OnErr, Some, false};
 ghost use Rattle.kumo_base.specs.Causes.{HasCause};
 ghost use Rattle.kumo_outside.specs.Devices.{one_more};
@@ -58,7 +63,8 @@ impl ScriptedLinker {
 
     /// Opens a link and adds its session. After `Memory` the sessions are as they were.
     fn open_link(&mut self, host: &str, source: &str) -> Result<ScriptedLink, Memory>
-        ensures ok { IfOk result (λ link. (link.opening.place ≡ length self.old.sessions) × (link.opening.host ≡ host.now) × (link.opening.source ≡ source.now)
+        ensures ok { IfOk result (λ link. (link.opening.place ≡ length self.old.sessions)
+            × (link.opening.host ≡ host.now) × (link.opening.source ≡ source.now)
             × (link ≡ record { opening = link.opening; sent = []; got = []; ended = false; faults = 0 })
             × (self.new.sessions ≡ self.old.sessions ++ fresh link.opening ∷ [])) }
         ensures err { OnErr result (self.new.sessions ≡ self.old.sessions) }
@@ -80,7 +86,13 @@ impl Linker for ScriptedLinker {
 
     fn open(&mut self, host: &str, source: &str) -> Result<ScriptedLink, Failed>
         ensures opened { IfOk result (λ link. Opens (Some self.old.sessions) (Some self.new.sessions) host.now source.now
-            (record { opening = link.opening; sent = Some link.sent; got = Some link.got; ended = link.ended; faults = link.faults })) }
+            (record {
+              opening = link.opening;
+              sent = Some link.sent;
+              got = Some link.got;
+              ended = link.ended;
+              faults = link.faults;
+            })) }
         ensures failed { OnErr result (Some self.new.sessions ≡ Some self.old.sessions) }
         ensures cause { HasCause self.old.faults self.new.faults result }
         ensures uncounted { OnOk result (self.new.faults ≡ self.old.faults) }
@@ -109,7 +121,15 @@ fn opened_session(
     source: &str,
     uses: [u32; KEY_COUNT],
 ) -> Result<Session, Memory>
-    ensures { IfOk result (λ s. s ≡ record { host = host.now; source = source.now; sent = []; got = []; ended = false; faults = 0; uses = uses }) }
+    ensures { IfOk result (λ s. s ≡ record {
+      host = host.now;
+      source = source.now;
+      sent = [];
+      got = [];
+      ended = false;
+      faults = 0;
+      uses = uses;
+    }) }
 {
     Ok(Session {
         host: Text::of(alloc, host)?,

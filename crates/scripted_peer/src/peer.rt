@@ -1,4 +1,9 @@
 //! What a scripted peer hears and says over one link.
+//!
+//! `link.rt` hands it the bytes that the client sends. It keeps all that it heard and all that it said, and acts on each line
+//! as soon as it is whole: a command gets the reply of its key, the data of a message is passed over up to its last line.
+//! Which replies it gives is tested and not proved; that it tells what went over the link is proved. The one refusal is
+//! `Memory`.
 ghost use Rattle.std.specs.Prelude.{◌≡◌, ◌<◌, ◌≤◌, ◌++◌, length, take, [], IfOk, IfSome, OnOk, OnErr};
 ghost use Rattle.scripted_peer.specs.inside.Begins.{Begins};
 

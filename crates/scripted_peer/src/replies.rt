@@ -54,7 +54,8 @@ impl PeerReplies {
     /// The replies of a peer that takes each message.
     pub fn new() -> PeerReplies
         ensures greet { result.greet.now ≡ codes "220 ready" }
-        ensures takes { (result.ehlo.now ≡ codes "250 ok") × (result.mail.now ≡ codes "250 ok") × (result.rcpt.now ≡ codes "250 ok") }
+        ensures takes { (result.ehlo.now ≡ codes "250 ok") × (result.mail.now ≡ codes "250 ok")
+            × (result.rcpt.now ≡ codes "250 ok") }
         ensures message { (result.data.now ≡ codes "354 go") × (result.body.now ≡ codes "250 ok") }
         ensures ends { (result.rset.now ≡ codes "250 ok") × (result.quit.now ≡ codes "221 bye") }
     {

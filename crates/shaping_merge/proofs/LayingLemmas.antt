@@ -10,7 +10,7 @@ use Rattle.policy_core.specs.declared.site.PathBase.{PathBase}
 use Rattle.policy_core.specs.Layers.{last_set}
 use Rattle.policy_core.specs.PathOptions.{no_options, options_over, options_in}
 use Rattle.policy_core.specs.PathTables.{said, said_for, layers_for, merged}
-use Rattle.shaping_merge.specs.Laying.{laid_over}
+use Rattle.shaping_merge.specs.inside.Laying.{laid_over}
 
 or_none : {V : Type 0} (a : Option V) → option_or a None ≡ a
 or_none None = refl

@@ -9,7 +9,7 @@ use Rattle.policy_core.specs.declared.site.Site.{Site}
 use Rattle.policy_core.specs.Policy.{Policy}
 use Rattle.policy_core.specs.Site.{is_at_site, rollup_of}
 use Rattle.policy_core.specs.PathTables.{firsts_but}
-use Rattle.shaping_merge.specs.Rollups.{rollup_in, with_shape, kept_shape}
+use Rattle.shaping_merge.specs.inside.Rollups.{rollup_in, with_shape, kept_shape}
 use Rattle.shaping_merge.proofs.FirstsLemmas.{new_passes, met_left}
 use Rattle.shaping_merge.proofs.SameSite.{rollup_found}
 

@@ -1,4 +1,2 @@
-pub mod Domains
 pub mod ExplainText
-pub mod Laying
-pub mod Rollups
+pub mod inside

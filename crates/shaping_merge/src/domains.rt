@@ -1,10 +1,13 @@
-//! The domains of a site.
+//! The domains of a site: those that share its hosts, and so its paths and limits.
+//!
+//! `tables.rt` asks for them, to try the suffixes of providers on. One pass goes over the MX rows, and the tables of the site
+//! come as a list; nothing is kept. The one refusal is `Memory`.
 ghost use Rattle.std.specs.Prelude.{◌≡◌, ◌++◌, ◌∷◌, [], IfOk, OnOk, map};
 ghost use Rattle.std.specs.List.{filter};
 ghost use Rattle.policy_core.specs.Site.{hosts_of, are_same_texts, is_at_site, own_domain, rollup_of, shape_of};
 ghost use Rattle.policy_core.specs.PathTables.{firsts};
-ghost use Rattle.shaping_merge.specs.Domains.{AreDomainsOf};
-ghost use Rattle.shaping_merge.specs.Rollups.{AreRollups};
+ghost use Rattle.shaping_merge.specs.inside.Domains.{AreDomainsOf};
+ghost use Rattle.shaping_merge.specs.inside.Rollups.{AreRollups};
 
 use crate::rollups::rollup_in;
 use crate::shapes::Shapes;

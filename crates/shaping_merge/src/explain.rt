@@ -1,4 +1,8 @@
 //! The text that says what applies on a path.
+//!
+//! `explain_text` writes the lines that `explain` prints of a path: the site, the source, the options in force and the rules.
+//! The lines are made in a text of their own and appended whole, so that after `Memory`, the one refusal, the caller's text
+//! is as it was.
 ghost use Rattle.std.specs.Prelude.{◌≡◌, ◌++◌, IfOk, OnOk, OnErr, decimal};
 ghost use Rattle.std.specs.List.{flat_map};
 ghost use Rattle.serde_json.specs.Data.{array};

@@ -1,9 +1,13 @@
-//! What the tables for a path come to.
+//! What the tables for a path come to: its options and its rules, before any rule fires.
+//!
+//! `path_base` is asked for a path by `explain` today and by the registry later, which has to keep the answer. `Merge` keeps
+//! the layers laid so far; the order is that of `tables_for`, and of an option the last that sets it counts. The one refusal
+//! is `Memory`.
 ghost use Rattle.std.specs.Prelude.{◌≡◌, ◌∷◌, ◌++◌, [], IfOk, OnOk, map, find, bytes_eq, option_map};
 ghost use Rattle.std.specs.List.{flat_map};
 ghost use Rattle.policy_core.specs.PathOptions.{no_options};
 ghost use Rattle.policy_core.specs.PathTables.{base_of, said, said_for};
-ghost use Rattle.shaping_merge.specs.Laying.{laid_over};
+ghost use Rattle.shaping_merge.specs.inside.Laying.{laid_over};
 
 use crate::tables::tables_for;
 use kumo_base::{Items, Memory};
@@ -110,7 +114,7 @@ impl Merge {
     }
 
     /// Lays a layer over what there is.
-    #[tactic(auto, unfolding(crate::specs::Laying::laid_over))]
+    #[tactic(auto, unfolding(crate::specs::inside::Laying::laid_over))]
     fn add(&mut self, alloc: Global, options: &Options, rules: &[Rule]) -> Result<(), Memory>
         ensures { OnOk result (self.new ≡ laid_over self.old (record { options = options.now; rules = rules.now } ∷ [])) }
     {

@@ -2,7 +2,7 @@
 ghost use Rattle.std.specs.Prelude.{◌≡◌, map};
 ghost use Rattle.std.specs.List.{list_all, list_any};
 ghost use Rattle.policy_core.specs.PathTables.{ends_with, says_so, is_provider_of};
-ghost use Rattle.shaping_merge.specs.Domains.{AreDomainsOf};
+ghost use Rattle.shaping_merge.specs.inside.Domains.{AreDomainsOf};
 
 use kumo_base::Text;
 use policy_core::{Match, Policy, Provider, Site};

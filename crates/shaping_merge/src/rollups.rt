@@ -1,7 +1,7 @@
 //! Which domains share their sites, for many look-ups.
 ghost use Rattle.std.specs.Prelude.{◌≡◌, ℕ, List, is_none, IfOk, OnOk};
 ghost use Rattle.std.specs.BTreeMap.{get_by_text};
-ghost use Rattle.shaping_merge.specs.Rollups.{rollup_at, with_shape};
+ghost use Rattle.shaping_merge.specs.inside.Rollups.{rollup_at, with_shape};
 
 use kumo_base::Memory;
 use policy_core::DomainShape;

@@ -4,7 +4,7 @@ ghost use Rattle.std.specs.BTreeMap.{get_by_text};
 ghost use Rattle.std.specs.List.{filter};
 ghost use Rattle.policy_core.specs.Site.{is_at_site, rollup_of, shape_of};
 ghost use Rattle.policy_core.specs.PathTables.{firsts};
-ghost use Rattle.shaping_merge.specs.Rollups.{AreRollups, with_shape, kept_shape};
+ghost use Rattle.shaping_merge.specs.inside.Rollups.{AreRollups, with_shape, kept_shape};
 
 use crate::domains::is_at;
 use crate::rollups::add_rollup;

@@ -3,7 +3,7 @@ ghost use Rattle.std.specs.Prelude.{◌≡◌, ◌||◌, ◌∷◌, ◌++◌, []
 ghost use Rattle.std.specs.BTreeSet.{contains_text};
 ghost use Rattle.std.specs.List.{filter};
 ghost use Rattle.policy_core.specs.PathTables.{is_provider_of, firsts, tables_for};
-ghost use Rattle.shaping_merge.specs.Domains.{AreDomainsOf};
+ghost use Rattle.shaping_merge.specs.inside.Domains.{AreDomainsOf};
 
 use crate::domains::domains_of;
 use crate::providers::is_provider_of;

@@ -12,7 +12,7 @@ use Rattle.policy_toml.specs.Places.{fault_cmp, first_of}
 use Rattle.shaping_policy.specs.declared.patterns.TheConstants.{PATTERN_COUNT_LIMIT}
 use Rattle.shaping_policy.specs.declared.text_places.TextPlace.{TextPlace}
 use Rattle.shaping_policy.specs.Faults.{faults_of_many}
-use Rattle.shaping_policy.specs.TextPlaces.{seen_place}
+use Rattle.shaping_policy.specs.inside.TextPlaces.{seen_place}
 use Rattle.shaping_policy.proofs.Firsts.{first_by, first_past, none_past, has_more_upto}
 use Rattle.policy_toml.proofs.FirstLemmas.{fault_cmp_total}
 use Rattle.shaping_policy.proofs.FaultOrder.{comes_before, comes_before_order, comes_before_exact, first_of-by}

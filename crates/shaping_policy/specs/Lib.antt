@@ -3,8 +3,6 @@ pub mod OptionValues
 pub mod RuleValues
 pub mod Tables
 pub mod Faults
-pub mod TextPlaces
-pub mod Suffixes
 pub mod ShapingFile
-pub mod Seen
 pub mod Refusals
+pub mod inside

@@ -9,7 +9,7 @@ ghost use Rattle.toml.specs.View.{table_view, view, items_view};
 ghost use Rattle.policy_toml.specs.Places.{first_of};
 ghost use Rattle.policy_toml.specs.Walks.{over_members, members_at};
 ghost use Rattle.shaping_policy.specs.Tables.{tables_in, rules_in};
-ghost use Rattle.shaping_policy.specs.Seen.{seen_table, seen_rule};
+ghost use Rattle.shaping_policy.specs.inside.Seen.{seen_table, seen_rule};
 ghost use Rattle.shaping_policy.specs.Faults.{plain_faults, faults_at_top, faults_of_provider, faults_of_table, faults_of_name, is_named_well, faults_of_kind, faults_at_key, faults_of_setting, faults_of_sources, faults_of_source, faults_of_rollup, faults_of_automation, faults_of_entries, faults_of_entry, has_sources, is_domain_kind};
 
 use crate::domains::note_twice;

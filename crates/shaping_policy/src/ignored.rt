@@ -1,10 +1,13 @@
 //! The keys of a shaping file that have no effect.
+//!
+//! `read_shaping` calls `ignored_in` where the document has no fault, with the tables and rules that were listed. Each
+//! function adds the keys of one kind of table to the list; `check` sorts them later. The one refusal is `Memory`.
 ghost use Rattle.std.specs.Prelude.{◌≡◌, ◌++◌, IfOk, OnOk, map};
 ghost use Rattle.std.specs.List.{flat_map, list_any};
 ghost use Rattle.toml.specs.View.{items_view, table_view};
 ghost use Rattle.policy_toml.specs.Walks.{over_members};
 ghost use Rattle.shaping_policy.specs.RuleValues.{over_items};
-ghost use Rattle.shaping_policy.specs.Seen.{seen_rule, seen_table};
+ghost use Rattle.shaping_policy.specs.inside.Seen.{seen_rule, seen_table};
 ghost use Rattle.shaping_policy.specs.ShapingFile.{ignored_of_table, ignored_at_key, is_known_key, ignored_of_rule, ignored_at_rule_key, is_rule_key, actions_given, is_nothing};
 
 use crate::rule_values::action_at;

@@ -1,4 +1,7 @@
 //! What the options of a path are set to, as the tables of a shaping file spell it.
+//!
+//! The faults, the data and the rules' `SetConfig` all ask here what a key and a value set, so that they agree. Nothing is
+//! kept and no memory is taken. A value that is refused gives its word: `BadType`, `BadOption` or `BadThrottle`.
 ghost use Rattle.std.specs.Prelude.{◌≡◌};
 ghost use Rattle.std.specs.List.{list_any};
 ghost use Rattle.throttle_spec.specs.ThrottleText.{is_underscore};

@@ -1,11 +1,15 @@
 //! The search patterns of rules.
+//!
+//! `read_shaping` calls `note_patterns` after the other faults: each text of `regex` that is not too long is built by the
+//! caller's search engine, and one that is none is a fault. Nothing is kept. Where the engine fails, `Search` ends the read
+//! and no fault is reported.
 ghost use Rattle.std.specs.Prelude.{◌≡◌, ◌∷◌, [], map, codes, is_ok, IfOk, IfErr, OnOk};
 ghost use Rattle.std.specs.List.{flat_map};
 ghost use Rattle.toml.specs.View.{view, items_view};
 ghost use Rattle.kumo_outside.specs.Search.{HasSearchCause};
 ghost use Rattle.policy_core.specs.declared.fault.Why.TheVariants.{BadPattern, BadType};
 ghost use Rattle.policy_toml.specs.Places.{first_of, fault_in};
-ghost use Rattle.shaping_policy.specs.Seen.{seen_rule};
+ghost use Rattle.shaping_policy.specs.inside.Seen.{seen_rule};
 ghost use Rattle.shaping_policy.specs.RuleValues.{pattern_at};
 ghost use Rattle.shaping_policy.specs.Faults.{pattern_faults, faults_of_patterns, faults_of_list, faults_from, faults_of_read};
 

@@ -1,4 +1,8 @@
 //! The faults of the rules of a shaping file, those of their patterns aside.
+//!
+//! `faults.rt` calls `note_rules` with the rules that `tables.rt` listed. Each fault goes to the one `FirstFault`, by the
+//! number of the rule's table in its list, and of its item where the value is a list. After `Memory` it may have seen some of
+//! them.
 ghost use Rattle.std.specs.Prelude.{◌≡◌, ◌||◌, OnOk, codes, map, option_map};
 ghost use Rattle.std.specs.List.{flat_map};
 ghost use Rattle.toml.specs.View.{table_view, view, items_view};
@@ -6,7 +10,7 @@ ghost use Rattle.policy_core.specs.declared.fault.Why.TheVariants.{BadType};
 ghost use Rattle.policy_toml.specs.Places.{first_of};
 ghost use Rattle.policy_toml.specs.Walks.{is_table};
 ghost use Rattle.shaping_policy.specs.RuleValues.{action_at};
-ghost use Rattle.shaping_policy.specs.Seen.{seen_rule};
+ghost use Rattle.shaping_policy.specs.inside.Seen.{seen_rule};
 ghost use Rattle.shaping_policy.specs.Faults.{faults_of_rule, faults_of_action, faults_of_list, faults_from, faults_of_one, faults_of_read, is_text};
 
 use crate::rule_values::{action_at, lasting_at, trigger_at};

@@ -1,4 +1,8 @@
 //! What the values of a rule and of a provider's match give, as a shaping file spells them.
+//!
+//! The faults, the data and the keys without effect all ask here what an action, a trigger, a duration or a match is, so that
+//! they agree. Nothing is kept, and only `match_at` takes memory, for a suffix in lower case. A value that is refused gives
+//! the word of its key.
 ghost use Rattle.std.specs.Prelude.{◌≡◌, Option, true, false, Ok, Err, IfOk, MatchOption, MatchResult, option_map, option_and_then, codes};
 ghost use Rattle.std.specs.List.{list_any, before_first, after_first};
 ghost use Rattle.throttle_spec.specs.ThrottleText.{is_slash};
@@ -7,7 +11,7 @@ ghost use Rattle.toml.specs.View.{table_view, view};
 ghost use Rattle.policy_toml.specs.Walks.{ok_of};
 ghost use Rattle.shaping_policy.specs.RuleValues.{holds_only, action_named, action_of, config_of, config_in, action_in, action_at, threshold_of, threshold_in, trigger_in, trigger_at, lasting_at};
 ghost use Rattle.shaping_policy.specs.Faults.{match_in, match_at};
-ghost use Rattle.shaping_policy.specs.Suffixes.{match_of};
+ghost use Rattle.shaping_policy.specs.inside.Suffixes.{match_of};
 
 use crate::option_values::setting_at;
 use kumo_base::{Memory, Text, around_first};

@@ -1,4 +1,7 @@
 //! The rules that a document without faults gives.
+//!
+//! `shaping.rt` asks for the rules of each table. An entry of a list gives a rule for each of its actions, with copies of its
+//! patterns, so that a rule can be kept by itself. Nothing is tested a second time; the one refusal is `Memory`.
 ghost use Rattle.std.specs.Prelude.{◌≡◌, ◌++◌, IfOk, OnOk, codes, unwrap_or};
 ghost use Rattle.toml.specs.Data.{get_member};
 ghost use Rattle.toml.specs.View.{items_view, table_view, view};

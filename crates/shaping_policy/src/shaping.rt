@@ -1,4 +1,7 @@
 //! The data that a document without faults gives.
+//!
+//! `read_shaping` calls `shaping_in` last. Nothing is tested here a second time: what a fault would have refused is not
+//! there. Providers, domains and sources are put in the order of their names. The one refusal is `Memory`.
 ghost use Rattle.std.specs.Prelude.{◌≡◌, ◌++◌, IfOk, OnOk, [], codes};
 ghost use Rattle.toml.specs.Data.{no_members};
 ghost use Rattle.toml.specs.View.{table_view, view};

@@ -1,8 +1,12 @@
 //! The tables of a shaping file, each with its place.
+//!
+//! `read_shaping` lists them once, and every pass over the file (faults, patterns, keys without effect) is a loop over the
+//! list. So where a table stands, what it is for and how it is named is said here alone. The lists keep references into the
+//! document. The one refusal is `Memory`.
 ghost use Rattle.std.specs.Prelude.{◌≡◌, ◌++◌, IfOk, OnOk, map};
 ghost use Rattle.toml.specs.View.{items_view, table_view, view};
 ghost use Rattle.policy_toml.specs.Walks.{over_members};
-ghost use Rattle.shaping_policy.specs.Seen.{seen_rule, seen_table};
+ghost use Rattle.shaping_policy.specs.inside.Seen.{seen_rule, seen_table};
 ghost use Rattle.shaping_policy.specs.RuleValues.{items_at};
 ghost use Rattle.shaping_policy.specs.Tables.{tables_in, tables_at, provider_tables_at, with_sources, placed, source_at, rules_in, rules_of, rules_from, rule_at, list_at};
 

@@ -1,10 +1,13 @@
 //! Where the texts of rules stand, and the first of them that is one too many.
+//!
+//! `patterns.rt` asks for it, since a file has at most 256 texts and the first past them, in the order of faults and not of
+//! the document, is at fault. The places are listed and sorted once. The one refusal is `Memory`.
 ghost use Rattle.std.specs.Prelude.{◌≡◌, ◌+◌, ◌++◌, map, IfOk, OnOk};
 ghost use Rattle.std.specs.List.{flat_map};
 ghost use Rattle.toml.specs.View.{view, items_view};
 ghost use Rattle.policy_toml.specs.Places.{first_of};
-ghost use Rattle.shaping_policy.specs.Seen.{seen_rule};
-ghost use Rattle.shaping_policy.specs.TextPlaces.{seen_place};
+ghost use Rattle.shaping_policy.specs.inside.Seen.{seen_rule};
+ghost use Rattle.shaping_policy.specs.inside.TextPlaces.{seen_place};
 ghost use Rattle.shaping_policy.specs.Faults.{faults_of_many, text_places, text_places_from, text_places_of};
 
 use crate::patterns::PATTERN_COUNT_LIMIT;

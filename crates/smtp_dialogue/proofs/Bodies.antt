@@ -4,7 +4,7 @@ use Rattle.std.specs.Option.{MatchOption}
 use Rattle.std.proofs.lemmas.List.{nil_from_length}
 use Rattle.std.specs.List.{flat_map, position}
 use Rattle.smtp_dialogue.specs.Body.{begins_with_line_feed, onto_first_line, body_lines, crlf, wire_line, wire}
-use Rattle.smtp_dialogue.specs.FirstLine.{is_line_end, line_length, behind_line_feed, behind_end}
+use Rattle.smtp_dialogue.specs.inside.FirstLine.{is_line_end, line_length, behind_line_feed, behind_end}
 
 -- the byte behind a carriage return, which is its line feed or begins the next line
 behind_return : (t u : Bool) (c : ℕ) (more : List ℕ) → (c == 10) ≡ t → (c == 13) ≡ u

@@ -13,9 +13,9 @@ use Rattle.smtp_reply.specs.Replies.{heard, code_of, one_line_text, reply_of}
 use Rattle.smtp_reply.specs.ReplyText.{IsReplyText}
 use Rattle.smtp_reply.specs.declared.reader.ReplyReader.{ReplyReader}
 use Rattle.smtp_reply.specs.Reading.{Reads, Feeds}
-use Rattle.smtp_dialogue.specs.Holding.{Holds, HoldsReply}
+use Rattle.smtp_dialogue.specs.inside.Holding.{Holds, HoldsReply}
 use Rattle.smtp_dialogue.specs.Speaks.{Side, side}
-use Rattle.smtp_dialogue.specs.Steps.{Gets, IsCutOff, IsAnswer, Hears}
+use Rattle.smtp_dialogue.specs.inside.Asking.{Gets, IsCutOff, IsAnswer, Hears}
 use Rattle.kumo_outside.proofs.ToldLemmas.{extended-next, extended-nil}
 use Rattle.smtp_reply.proofs.HeardLemmas.{more_is_short, more_uses_all}
 use Rattle.smtp_reply.proofs.WholeLemmas.{reader_proper}

@@ -11,8 +11,8 @@ use Rattle.smtp_reply.specs.Replies.{heard, code_of, one_line_text}
 use Rattle.smtp_dialogue.specs.Body.{crlf}
 use Rattle.smtp_dialogue.specs.Transcript.{Spoken, Standing, over, waiting, is_alive, ends, says, on_heard, answered}
 use Rattle.smtp_dialogue.specs.Speaks.{Side, IsWhole, IsCutAtReset, IsCutShort, Speaks}
-use Rattle.smtp_dialogue.specs.Steps.{Sends, FailsToSend, IsReply, IsAnswer, Hears, FailsToAsk, Asks}
-use Rattle.smtp_dialogue.specs.Tries.{standing_of}
+use Rattle.smtp_dialogue.specs.inside.Asking.{Sends, FailsToSend, IsReply, IsAnswer, Hears, FailsToAsk, Asks}
+use Rattle.smtp_dialogue.specs.inside.Tries.{standing_of}
 use Rattle.kumo_outside.proofs.ToldLemmas.{extended-next, extended-nil, TakesFront-after, TakesProperFront-after, TakesProperFront-more, TakesFront-proper, TakesFront-whole}
 use Rattle.smtp_dialogue.proofs.Stability.{answered_whole}
 

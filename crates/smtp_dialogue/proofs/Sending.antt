@@ -3,7 +3,7 @@ use Rattle.std.proofs.Common.{◌≡◌, ℕ, ◌+◌, ◌<◌, ◌≤◌, List,
 use Rattle.kumo_base.specs.Causes.{Rose}
 use Rattle.kumo_outside.specs.Sessions.{LinkSeen}
 use Rattle.kumo_outside.specs.Told.{extended}
-use Rattle.smtp_dialogue.specs.Steps.{Sends, FailsToSend}
+use Rattle.smtp_dialogue.specs.inside.Asking.{Sends, FailsToSend}
 use Rattle.kumo_outside.proofs.ToldLemmas.{extended-next, extended-nil, TakesProperFront-after, TakesProperFront-more}
 
 -- nothing is sent yet

@@ -14,8 +14,8 @@ use Rattle.smtp_dialogue.specs.declared.delivery.Tried.{Tried}
 use Rattle.smtp_dialogue.specs.Body.{crlf, wire}
 use Rattle.smtp_dialogue.specs.Transcript.{Spoken, alive, over, ends, says, on_heard, answered, lost_for, no_outcome, is_positive, after_ehlo, after_greeting, after_reset, resets, refused, after_body, after_data, after_recipient, after_sender, attempted, after_quit, parting, greeting}
 use Rattle.smtp_dialogue.specs.Speaks.{Side, Speaks}
-use Rattle.smtp_dialogue.specs.Steps.{Asks}
-use Rattle.smtp_dialogue.specs.Tries.{Tries, IsDecided, standing_of}
+use Rattle.smtp_dialogue.specs.inside.Asking.{Asks}
+use Rattle.smtp_dialogue.specs.inside.Tries.{Tries, IsDecided, standing_of}
 use Rattle.smtp_dialogue.proofs.Parts.{speaks_same, speaks_ends, asked_then, asked_none, Answers, cut_at_reset}
 
 -- a count that rose after it did not fall

@@ -40,7 +40,8 @@ pub record IsCutShort (t : Spoken) (old new : Side) (at_fault outcomes : List Ou
   pub outcomes_are : (outcomes ≡ at_fault) ⊎ ((outcomes ≡ t.outcomes) × IsCutAtReset t old new)
 
 -- the bytes that came in the call, whatever pieces they came in, make the part of the transcript what it is
-pub record Speaks (part : List ℕ → Spoken) (old new : Side) (at_fault outcomes : List Outcome) (is_left_alive : Bool) : Type 0 where
+pub record Speaks (part : List ℕ → Spoken) (old new : Side) (at_fault outcomes : List Outcome) (is_left_alive : Bool)
+    : Type 0 where
   pub more : List ℕ
   pub grows : new.link.got ≡ extended old.link.got more
   pub later : old.link.faults ≤ new.link.faults

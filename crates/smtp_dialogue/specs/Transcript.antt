@@ -58,7 +58,12 @@ answered next lost bytes = on_heard next lost (heard bytes).what (heard bytes).u
 abbrev pub joined_at : Standing → Spoken → (List ℕ → Spoken) → Spoken
 joined_at alive first next =
     let second = next first.rest in
-    record { sent = first.sent ++ second.sent; outcomes = first.outcomes ++ second.outcomes; standing = second.standing; rest = second.rest }
+    record {
+      sent = first.sent ++ second.sent;
+      outcomes = first.outcomes ++ second.outcomes;
+      standing = second.standing;
+      rest = second.rest;
+    }
 joined_at over first next = first
 joined_at waiting first next = first
 

@@ -2,9 +2,9 @@
 ghost use Rattle.std.specs.Prelude.{◌≡◌, ◌++◌, ℕ, List, IfOk};
 ghost use Rattle.smtp_reply.specs.Replies.{code_of};
 ghost use Rattle.smtp_dialogue.specs.Body.{wire};
-ghost use Rattle.smtp_dialogue.specs.Holding.{Holds};
+ghost use Rattle.smtp_dialogue.specs.inside.Holding.{Holds};
 ghost use Rattle.smtp_dialogue.specs.Speaks.{side};
-ghost use Rattle.smtp_dialogue.specs.Steps.{Asks};
+ghost use Rattle.smtp_dialogue.specs.inside.Asking.{Asks};
 
 use crate::body::send_body;
 use crate::listen::{take_code, take_reply};

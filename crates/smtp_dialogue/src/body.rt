@@ -1,8 +1,8 @@
 //! Sends a body as the lines that DATA wants (RFC 5321 section 4.5.2), with no copy of it.
 ghost use Rattle.std.specs.Prelude.{◌≡◌, ◌<◌, ◌≤◌, ◌++◌, ◌∷◌, ℕ, List, length, position, MatchResult};
 ghost use Rattle.smtp_dialogue.specs.Body.{body_lines, stuffed, wire_line, wire};
-ghost use Rattle.smtp_dialogue.specs.FirstLine.{is_line_end, line_length, behind_end};
-ghost use Rattle.smtp_dialogue.specs.Steps.{Sends, FailsToSend};
+ghost use Rattle.smtp_dialogue.specs.inside.FirstLine.{is_line_end, line_length, behind_end};
+ghost use Rattle.smtp_dialogue.specs.inside.Asking.{Sends, FailsToSend};
 
 use crate::send::{send_all, send_three};
 use kumo_base::Failed;

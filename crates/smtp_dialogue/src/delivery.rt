@@ -7,10 +7,10 @@ ghost use Rattle.kumo_base.specs.Causes.{Rose};
 ghost use Rattle.smtp_reply.specs.Replies.{code_of, one_line_text};
 ghost use Rattle.smtp_reply.specs.ReplyText.{IsReplyText, IsProperOutcome};
 ghost use Rattle.smtp_reply.specs.declared.reply.Lost.TheVariants.{LinkFault, Ended};
-ghost use Rattle.smtp_dialogue.specs.Holding.{Holds, HoldsReply};
+ghost use Rattle.smtp_dialogue.specs.inside.Holding.{Holds, HoldsReply};
 ghost use Rattle.smtp_dialogue.specs.Transcript.{ends, is_positive, resets, refused, after_body, after_data, after_recipient, after_sender, attempted};
 ghost use Rattle.smtp_dialogue.specs.Speaks.{side, Speaks};
-ghost use Rattle.smtp_dialogue.specs.Tries.{Tries, IsDecided, standing_of};
+ghost use Rattle.smtp_dialogue.specs.inside.Tries.{Tries, IsDecided, standing_of};
 
 use crate::ask::{ask, ask_body, ask_code};
 use crate::scratch::Scratch;
@@ -87,7 +87,8 @@ fn after_sender<L: Link>(
 ) -> Tried
     requires { HoldsReply reader }
     ensures opening { (L.seen link.new).opening ≡ (L.seen link.old).opening }
-    ensures tries { (reply : List ℕ) → Holds reader reply → Tries (after_sender recipient.now body.now (code_of reply) (one_line_text reply))
+    ensures tries { (reply : List ℕ) → Holds reader reply
+        → Tries (after_sender recipient.now body.now (code_of reply) (one_line_text reply))
         (side (L.seen link.old) scratch.old)
         (side (L.seen link.new) scratch.new) result }
 {
@@ -147,7 +148,8 @@ fn after_data<L: Link>(
 /// The reply to the body is read, and decides.
 fn after_body(reply: Reply) -> Tried
     requires { IsReplyText reply.code reply.text }
-    ensures ends { (bytes : List ℕ) → after_body reply.code reply.text bytes ≡ ends (result.outcome ∷ []) (standing_of result.alive) bytes }
+    ensures ends { (bytes : List ℕ)
+        → after_body reply.code reply.text bytes ≡ ends (result.outcome ∷ []) (standing_of result.alive) bytes }
     ensures decided { IsDecided result.outcome }
     ensures delivered { (reply : Reply) → result.outcome ≡ Outcome.Delivered reply → result.alive ≡ true }
 {

@@ -3,7 +3,7 @@ ghost use Rattle.std.specs.Prelude.{◌≡◌, ℕ, List, []};
 ghost use Rattle.smtp_dialogue.specs.Ready.{is_ready};
 ghost use Rattle.smtp_dialogue.specs.Transcript.{ends, greeting, after_greeting, after_ehlo};
 ghost use Rattle.smtp_dialogue.specs.Speaks.{side, Speaks};
-ghost use Rattle.smtp_dialogue.specs.Tries.{standing_of};
+ghost use Rattle.smtp_dialogue.specs.inside.Tries.{standing_of};
 
 use crate::ask::ask_code;
 use crate::delivery::is_positive;

@@ -1,9 +1,9 @@
 //! Reads one reply from a link, in whatever pieces it comes.
 ghost use Rattle.std.specs.Prelude.{◌≡◌, ◌<◌, ◌≤◌, ◌+◌, ℕ, List, [], length, MatchResult, IfOk};
 ghost use Rattle.smtp_reply.specs.Replies.{code_of};
-ghost use Rattle.smtp_dialogue.specs.Holding.{Holds};
+ghost use Rattle.smtp_dialogue.specs.inside.Holding.{Holds};
 ghost use Rattle.smtp_dialogue.specs.Speaks.{side};
-ghost use Rattle.smtp_dialogue.specs.Steps.{Gets, IsCutOff, Hears};
+ghost use Rattle.smtp_dialogue.specs.inside.Asking.{Gets, IsCutOff, Hears};
 
 use crate::scratch::{Scratch, Unread};
 use kumo_outside::Link;

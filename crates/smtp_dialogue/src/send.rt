@@ -1,6 +1,6 @@
 //! Sends whole pieces over a link.
 ghost use Rattle.std.specs.Prelude.{◌≡◌, ◌++◌, ℕ, List, length, MatchResult};
-ghost use Rattle.smtp_dialogue.specs.Steps.{Sends, FailsToSend};
+ghost use Rattle.smtp_dialogue.specs.inside.Asking.{Sends, FailsToSend};
 
 use kumo_base::Failed;
 use kumo_outside::Link;

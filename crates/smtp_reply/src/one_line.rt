@@ -1,4 +1,8 @@
 //! The text of a reply on one line, cut to what is kept.
+//!
+//! `said.rt` writes the bytes of each line's text here as they come, and the reader hands the text out. It keeps a room that
+//! was made before the reply came, so that no byte of a reply takes memory; what does not fit is dropped. It refuses nothing:
+//! a byte that is not printable is kept as `?`.
 ghost use Rattle.std.specs.Prelude.{◌≡◌, ◌≤◌, ◌<◌, ◌==◌, ◌||◌, ◌∷◌, ◌++◌, ℕ, List, [], length, take};
 ghost use Rattle.smtp_reply.specs.Replies.{shown, shown_more, comes, has_bytes};
 

@@ -1,4 +1,8 @@
 //! Where in a line of a reply the next byte stands.
+//!
+//! The reader keeps one `Place` for the reply that it is in, and asks here what a byte makes of it: the next place, a whole
+//! reply, or bytes with which no reply goes on. These are the steps of a machine whose meaning is the grammar on whole bytes.
+//! Nothing takes memory.
 ghost use Rattle.std.specs.Prelude.{◌≡◌, ◌∷◌, ◌++◌, ℕ, List, [], false};
 ghost use Rattle.smtp_reply.specs.declared.said.Said.{Said};
 ghost use Rattle.smtp_reply.specs.Reading.{Stands, Makes, after_digit, may_stand, next_place};

@@ -1,4 +1,8 @@
 //! What a reply said so far: its code and its text.
+//!
+//! The reader hands each byte of a reply to `read_byte`, which keeps the three digits of the first line and the text of all
+//! lines (`one_line.rt`), and answers where the next byte stands (`place.rt`). A later line with another code is no reply.
+//! Nothing takes memory.
 ghost use Rattle.std.specs.Prelude.{◌≡◌, ◌≤◌, ◌<◌, ◌∷◌, ◌++◌, ℕ, List, [], length};
 ghost use Rattle.smtp_reply.specs.Reading.{Stands, Makes, digits_in, digit_at, with_digit};
 ghost use Rattle.smtp_reply.specs.Replies.{number_of};

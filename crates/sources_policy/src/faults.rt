@@ -1,4 +1,8 @@
 //! The faults of a sources file.
+//!
+//! `read_sources` calls `faults_in` before it makes any data. Each function goes over one part of the document (sources,
+//! pools, the entrants of a pool) and hands every fault to the one `FirstFault`, which keeps the first by place. After
+//! `Memory` it may have seen some of them.
 ghost use Rattle.std.specs.Prelude.{◌≡◌, [], IfOk, OnOk, None, codes};
 ghost use Rattle.toml.specs.View.{table_view, view};
 ghost use Rattle.policy_toml.specs.Places.{first_of};

@@ -1,4 +1,8 @@
 //! The sources and pools that a document without faults gives.
+//!
+//! `read_sources` calls `sources_in` last. Nothing is tested here a second time: what a fault would have refused is not
+//! there. The source and the pool `unspecified` are added where the file has none, and both lists are in byte order of their
+//! names. The one refusal is `Memory`.
 ghost use Rattle.std.specs.Prelude.{◌≡◌, ◌++◌, IfOk, OnOk, Ok, codes};
 ghost use Rattle.toml.specs.View.{table_view};
 ghost use Rattle.policy_toml.specs.Walks.{over_members, members_at};

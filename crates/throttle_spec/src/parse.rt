@@ -1,4 +1,7 @@
 //! Reads a throttle from its text, as `local:1_000/hour,max_burst=50`. The readers of shaping files read their rates here.
+//!
+//! `ThrottleSpec::parse` cuts the text at its first slash and at `,max_burst=`, and reads the parts. It keeps nothing and
+//! takes no memory. It answers the throttle, or the first `ThrottleFault` in the order in which they are listed.
 ghost use Rattle.std.specs.Prelude.{◌≡◌, ◌<◌, ◌≤◌, ℕ, ◌+◌, ◌==◌, min, true, false, Option, Some, None, Ok, Err, IfOk, IfSome, MatchOption, length, codes};
 ghost use Rattle.std.specs.Option.{option_map};
 ghost use Rattle.std.specs.List.{list_any, list_all, filter, before_first, after_first};

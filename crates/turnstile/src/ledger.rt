@@ -36,7 +36,8 @@ impl Ledger {
     /// Adds a mark, unless there is no memory: then it answers false, and nothing changes.
     pub fn add(&mut self, by: u32, number: u32) -> bool
         ensures follows { Follows by (shown_marks self.old.marks.items) (shown_marks self.new.marks.items) }
-        ensures added { MatchBool result (self.new.marks.items ≡ with_mark self.old.marks.items by number) (self.new.marks.items ≡ self.old.marks.items) }
+        ensures added { MatchBool result (self.new.marks.items ≡ with_mark self.old.marks.items by number)
+            (self.new.marks.items ≡ self.old.marks.items) }
     {
         self.marks.push(Mark { by, number }).is_ok()
     }
@@ -47,7 +48,8 @@ pub fn mark_turn<R: Wait>(rt: &R, stile: &Turnstile<Ledger>, pass: &mut Pass, nu
     requires table { stile_of pass.old ≡ id_of stile.now }
     requires idle { IsIdle pass.old }
     ensures place { KeepsPlace pass.old pass.new }
-    ensures own { let v = view pass.old in own v.number (view pass.new).seen.entries ≡ own v.number v.seen.entries ++ made result v.number number }
+    ensures own { let v = view pass.old in
+        own v.number (view pass.new).seen.entries ≡ own v.number v.seen.entries ++ made result v.number number }
 {
     let mut ledger = stile.enter(rt, pass);
     let done = ledger.add(pass.number(), number);

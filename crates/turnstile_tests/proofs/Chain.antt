@@ -3,7 +3,7 @@ use Rattle.std.proofs.Common.{◌≡◌, ℕ, zero, suc, ◌<◌, List, [], ◌�
 use Rattle.turnstile.specs.Passes.{view}
 use Rattle.turnstile.specs.Views.{joined, AllMet}
 use Rattle.turnstile.specs.declared.view.View.{View}
-use Rattle.turnstile_tests.specs.Alone.{Four, both_joined}
+use Rattle.turnstile_tests.specs.inside.Alone.{Four, both_joined}
 
 -- the four passes from `a` on met nobody
 pub record AreNumbered (a b c d : ℕ) (q : Four) : Type 0 where

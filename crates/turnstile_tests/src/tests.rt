@@ -2,7 +2,7 @@
 ghost use Rattle.std.specs.Prelude.{◌≡◌, ◌+◌, ◌<◌};
 ghost use Rattle.turnstile.specs.Passes.{view, stile_of, id_of, KeepsPlace};
 ghost use Rattle.turnstile.specs.Views.{joined};
-ghost use Rattle.turnstile_tests.specs.Alone.{IsReady, IsAlone, BothReady, BothAlone, KeepsBoth, AllReady, KeepsAll, IsSecond, AreSeconds, both_joined};
+ghost use Rattle.turnstile_tests.specs.inside.Alone.{IsReady, IsAlone, BothReady, BothAlone, KeepsBoth, AllReady, KeepsAll, IsSecond, AreSeconds, both_joined};
 
 use std::process::Abort;
 use std::sync::Wait;

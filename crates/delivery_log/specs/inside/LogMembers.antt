@@ -7,7 +7,8 @@ use Rattle.delivery_log.specs.LogText.{lost_text, whole_number}
 
 -- what each line has: when, by which pass and what
 abbrev pub common_members : ℕ → ℕ → List ℕ → Members
-common_members at by kind = member (codes "at") (whole_number at) (member (codes "by") (whole_number by) (member (codes "kind") (string kind) no_members))
+common_members at by kind =
+    member (codes "at") (whole_number at) (member (codes "by") (whole_number by) (member (codes "kind") (string kind) no_members))
 
 -- the members with the reply's text, or with why there was no reply
 abbrev pub with_decision : Outcome → Members → Members

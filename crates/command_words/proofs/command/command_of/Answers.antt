@@ -1,5 +1,5 @@
 use Rattle.std.proofs.Common.{sym, ap, ◌∙◌}
-use Rattle.command_words.specs.Verbs.{verb_of}
+use Rattle.command_words.specs.inside.Verbs.{verb_of}
 use Rattle.command_words.specs.Commands.{command_of}
 use Rattle.command_words.proofs.CommandLemmas.{command_is}
 use Rattle.command_words.proofs.command.command_of.Goals as goal

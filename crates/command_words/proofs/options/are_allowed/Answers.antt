@@ -1,5 +1,5 @@
 use Rattle.std.proofs.Common.{sym, ◌∙◌}
-use Rattle.command_words.specs.Verbs.{names_of}
+use Rattle.command_words.specs.inside.Verbs.{names_of}
 use Rattle.command_words.proofs.WalkLemmas.{allowed_more, allowed_other, allowed_again, allowed_none, is_given_as}
 use Rattle.command_words.proofs.options.are_allowed.Goals as goal
 use Rattle.command_words.proofs.options.are_allowed.Goals.{then-not-takes-via-then-not-takes, then-not-takes-via-else-not-takes+then-is_some}

@@ -1,7 +1,7 @@
 use Rattle.std.proofs.Common.{◌≡◌, length}
 use Rattle.command_words.specs.Options.{are_allowed}
-use Rattle.command_words.specs.Verbs.{names_of}
-use Rattle.command_words.specs.Walk.{given_in}
+use Rattle.command_words.specs.inside.Verbs.{names_of}
+use Rattle.command_words.specs.inside.Walk.{given_in}
 use Rattle.command_words.proofs.options.are_allowed.Given as goal
 
 -- the options are allowed where the rest of them are

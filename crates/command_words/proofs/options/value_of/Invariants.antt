@@ -1,6 +1,6 @@
 use Rattle.std.proofs.Common.{◌≡◌, length}
 use Rattle.command_words.specs.Options.{value_of}
-use Rattle.command_words.specs.Walk.{given_in}
+use Rattle.command_words.specs.inside.Walk.{given_in}
 use Rattle.command_words.proofs.options.value_of.Given as goal
 
 -- the value is that among the rest

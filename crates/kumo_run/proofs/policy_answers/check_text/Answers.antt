@@ -1,4 +1,4 @@
-use Rattle.command_words.specs.Told.{seen_names}
+use Rattle.command_words.specs.SeenCommands.{seen_names}
 use Rattle.kumo_run.proofs.PolicyLemmas.{refuses_policy}
 use Rattle.kumo_run.proofs.policy_answers.check_text.Goals as goal
 

@@ -1,5 +1,5 @@
 use Rattle.std.proofs.Common.{Some, refl, sym, ap, ◌∙◌}
-use Rattle.command_words.specs.Told.{read_as}
+use Rattle.command_words.specs.SeenCommands.{read_as}
 use Rattle.command_words.specs.declared.command.Command.{Command as Words}
 use Rattle.command_words.specs.Commands.{command_of}
 use Rattle.kumo_run.specs.declared.refusal.Refusal.TheVariants as refusal

@@ -1,6 +1,6 @@
 use Rattle.command_words.specs.Commands.{check}
 use Rattle.std.proofs.Common.{Some, [], refl}
-use Rattle.command_words.specs.Told.{seen_names}
+use Rattle.command_words.specs.SeenCommands.{seen_names}
 use Rattle.kumo_run.proofs.EndLemmas.{ends_answered, ends_refused}
 use Rattle.kumo_run.proofs.run.run_check.Goals as goal
 

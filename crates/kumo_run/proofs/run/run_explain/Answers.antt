@@ -1,6 +1,6 @@
 use Rattle.command_words.specs.Commands.{explain}
 use Rattle.std.proofs.Common.{Some, [], refl}
-use Rattle.command_words.specs.Told.{seen_question}
+use Rattle.command_words.specs.SeenCommands.{seen_question}
 use Rattle.kumo_run.proofs.EndLemmas.{ends_answered, ends_refused}
 use Rattle.kumo_run.proofs.run.run_explain.Goals as goal
 

@@ -1,6 +1,6 @@
 use Rattle.std.proofs.Common.{Some, refl}
 use Rattle.command_words.specs.Commands.{Sending, send}
-use Rattle.command_words.specs.Told.{seen_sending}
+use Rattle.command_words.specs.SeenCommands.{seen_sending}
 use Rattle.kumo_run.specs.declared.refusal.Refusal.TheVariants as refusal
 use Rattle.kumo_run.specs.Causes.{mail}
 use Rattle.kumo_run.specs.Deeds.{all_sessions}

@@ -1,5 +1,5 @@
 use Rattle.std.proofs.Common.{◌∙◌, ap}
-use Rattle.mx_table.specs.Joined.{domains}
+use Rattle.mx_table.specs.inside.Joined.{domains}
 use Rattle.mx_table.proofs.JoinLemmas.{joins_rows, is_table}
 use Rattle.mx_table.proofs.table.table_of.Goals as goal
 

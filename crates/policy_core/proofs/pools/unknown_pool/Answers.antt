@@ -1,7 +1,7 @@
 use Rattle.std.proofs.Common.{◌≡◌, ◌∙◌, None, ap}
 use Rattle.policy_core.specs.declared.pools.PoolCheck.{PoolCheck}
 use Rattle.policy_core.specs.Policy.{placed_layers}
-use Rattle.policy_core.specs.PoolCheck.{with_layers}
+use Rattle.policy_core.specs.inside.PoolCheck.{with_layers}
 use Rattle.policy_core.proofs.PoolLemmas.{with_then, unknown_with}
 use Rattle.policy_core.proofs.pools.unknown_pool.Goals as goal
 

@@ -1,6 +1,6 @@
 use Rattle.std.proofs.Common.{◌∙◌, ap, ◌++◌, List, arith}
 use Rattle.std.proofs.lemmas.Result.{err_from_is_err_and}
-use Rattle.command_words.specs.Told.{seen_names}
+use Rattle.command_words.specs.SeenCommands.{seen_names}
 use Rattle.policy_core.specs.declared.fault.Ignored.{Ignored}
 use Rattle.sources_policy.specs.SourcesFile.{SourcesFile}
 use Rattle.queues_policy.specs.QueuesFile.{QueuesFile}

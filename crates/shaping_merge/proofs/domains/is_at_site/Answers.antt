@@ -1,6 +1,6 @@
 use Rattle.std.proofs.Common.{◌∙◌, ap}
 use Rattle.policy_core.specs.Site.{shape_of}
-use Rattle.shaping_merge.specs.Rollups.{rollup_at}
+use Rattle.shaping_merge.specs.inside.Rollups.{rollup_at}
 use Rattle.shaping_merge.proofs.SameSite.{rollup_found}
 use Rattle.shaping_merge.proofs.domains.is_at_site.Goals as goal
 

@@ -4,7 +4,7 @@ use Rattle.std.specs.Option.{option_or}
 use Rattle.std.specs.BTreeMap.{get_by_text}
 use Rattle.policy_core.specs.Site.{is_at_site}
 use Rattle.policy_core.specs.PathTables.{firsts, firsts_but}
-use Rattle.shaping_merge.specs.Rollups.{rollup_in}
+use Rattle.shaping_merge.specs.inside.Rollups.{rollup_in}
 use Rattle.shaping_merge.proofs.shapes.shapes_of.Given as goal
 
 abbrev pub invariant-loop-shape : goal.invariant-loop-shape

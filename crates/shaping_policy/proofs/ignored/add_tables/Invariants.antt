@@ -1,6 +1,6 @@
 use Rattle.std.proofs.Common.{◌≡◌, ◌++◌, drop, map}
 use Rattle.std.specs.List.{flat_map}
-use Rattle.shaping_policy.specs.Seen.{seen_table}
+use Rattle.shaping_policy.specs.inside.Seen.{seen_table}
 use Rattle.shaping_policy.specs.ShapingFile.{ignored_of_table}
 use Rattle.shaping_policy.proofs.ignored.add_tables.Given as goal
 

@@ -1,5 +1,5 @@
 use Rattle.std.proofs.Common.{◌∙◌, arith}
-use Rattle.shaping_policy.specs.Seen.{seen_rule}
+use Rattle.shaping_policy.specs.inside.Seen.{seen_rule}
 use Rattle.shaping_policy.specs.Faults.{faults_of_patterns}
 use Rattle.shaping_policy.proofs.PatternLemmas.{rule_step}
 use Rattle.shaping_policy.proofs.patterns.note_bad_patterns.Goals as goal

@@ -1,7 +1,7 @@
 use Rattle.std.proofs.Common.{◌≡◌, ◌≤◌, drop, map}
 use Rattle.std.specs.List.{flat_map}
 use Rattle.policy_toml.specs.Places.{first_of}
-use Rattle.shaping_policy.specs.Seen.{seen_rule}
+use Rattle.shaping_policy.specs.inside.Seen.{seen_rule}
 use Rattle.shaping_policy.specs.Faults.{faults_of_patterns}
 use Rattle.shaping_policy.proofs.patterns.note_bad_patterns.Given as goal
 

@@ -1,7 +1,7 @@
 use Rattle.std.proofs.Common.{◌≡◌, map, drop}
 use Rattle.std.specs.List.{flat_map}
 use Rattle.policy_toml.specs.Places.{first_of}
-use Rattle.shaping_policy.specs.Seen.{seen_rule}
+use Rattle.shaping_policy.specs.inside.Seen.{seen_rule}
 use Rattle.shaping_policy.specs.Faults.{faults_of_rule}
 use Rattle.shaping_policy.proofs.rule_faults.note_rules.Given as goal
 

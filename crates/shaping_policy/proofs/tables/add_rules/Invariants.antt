@@ -1,6 +1,6 @@
 use Rattle.std.proofs.Common.{◌≡◌, ◌+◌, ◌++◌, drop, map}
 use Rattle.toml.specs.View.{items_view}
-use Rattle.shaping_policy.specs.Seen.{seen_rule}
+use Rattle.shaping_policy.specs.inside.Seen.{seen_rule}
 use Rattle.shaping_policy.specs.Tables.{rules_from}
 use Rattle.shaping_policy.proofs.tables.add_rules.Given as goal
 

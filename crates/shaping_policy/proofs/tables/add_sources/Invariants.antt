@@ -1,7 +1,7 @@
 use Rattle.std.proofs.Common.{◌≡◌, ◌++◌, map}
 use Rattle.toml.specs.View.{members_view}
 use Rattle.policy_toml.specs.Walks.{over_members}
-use Rattle.shaping_policy.specs.Seen.{seen_table}
+use Rattle.shaping_policy.specs.inside.Seen.{seen_table}
 use Rattle.shaping_policy.specs.Tables.{source_at}
 use Rattle.shaping_policy.proofs.tables.add_sources.Given as goal
 

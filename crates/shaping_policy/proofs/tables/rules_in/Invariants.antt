@@ -1,5 +1,5 @@
 use Rattle.std.proofs.Common.{◌≡◌, ◌++◌, drop, map}
-use Rattle.shaping_policy.specs.Seen.{seen_rule, seen_table}
+use Rattle.shaping_policy.specs.inside.Seen.{seen_rule, seen_table}
 use Rattle.shaping_policy.specs.Tables.{rules_in}
 use Rattle.shaping_policy.proofs.tables.rules_in.Given as goal
 

@@ -1,6 +1,6 @@
 use Rattle.std.proofs.Common.{◌≡◌, ◌+◌, ◌++◌, map, drop}
 use Rattle.toml.specs.View.{items_view}
-use Rattle.shaping_policy.specs.TextPlaces.{seen_place}
+use Rattle.shaping_policy.specs.inside.TextPlaces.{seen_place}
 use Rattle.shaping_policy.specs.Faults.{text_places_from}
 use Rattle.shaping_policy.proofs.text_places.add_items.Given as goal
 

@@ -2,7 +2,7 @@ use Rattle.std.proofs.Common.{◌≡◌, ◌<◌, ◌≤◌, ◌∙◌, ap, sym,
 use Rattle.policy_toml.specs.Places.{first_of}
 use Rattle.shaping_policy.specs.declared.patterns.TheConstants.{PATTERN_COUNT_LIMIT}
 use Rattle.shaping_policy.specs.declared.text_places.TextPlace.{TextPlace}
-use Rattle.shaping_policy.specs.TextPlaces.{seen_place}
+use Rattle.shaping_policy.specs.inside.TextPlaces.{seen_place}
 use Rattle.shaping_policy.proofs.TooMany.{past_limit, within_limit}
 use Rattle.shaping_policy.proofs.text_places.note_too_many.Goals as goal
 

@@ -1,7 +1,7 @@
 use Rattle.std.proofs.Common.{◌≡◌, ◌++◌, map, drop}
 use Rattle.std.specs.List.{flat_map}
-use Rattle.shaping_policy.specs.Seen.{seen_rule}
-use Rattle.shaping_policy.specs.TextPlaces.{seen_place}
+use Rattle.shaping_policy.specs.inside.Seen.{seen_rule}
+use Rattle.shaping_policy.specs.inside.TextPlaces.{seen_place}
 use Rattle.shaping_policy.specs.Faults.{text_places}
 use Rattle.shaping_policy.proofs.text_places.places_of_texts.Given as goal
 

@@ -1,6 +1,6 @@
 use Rattle.std.proofs.Common.{◌≡◌, ◌++◌, ℕ, List, length, flat_map}
 use Rattle.smtp_dialogue.specs.Body.{body_lines, wire_line}
-use Rattle.smtp_dialogue.specs.Steps.{Sends}
+use Rattle.smtp_dialogue.specs.inside.Asking.{Sends}
 use Rattle.smtp_dialogue.proofs.body.send_body.Given as goal
 
 -- what was sent, and the lines of the rest behind it, are the lines of the body

@@ -1,5 +1,5 @@
 use Rattle.std.proofs.Common.{length, ◌-◌, ◌≡◌, ◌≤◌, take}
-use Rattle.smtp_dialogue.specs.Steps.{Sends}
+use Rattle.smtp_dialogue.specs.inside.Asking.{Sends}
 use Rattle.smtp_dialogue.proofs.send.send_all.Given as goal
 
 -- the bytes before the place were sent

@@ -1,7 +1,7 @@
 use Rattle.std.proofs.Common.{◌≡◌, drop}
 use Rattle.std.specs.List.{flat_map}
 use Rattle.policy_core.specs.Policy.{layers_of_domain}
-use Rattle.policy_core.specs.PoolCheck.{with_layers}
+use Rattle.policy_core.specs.inside.PoolCheck.{with_layers}
 use Rattle.policy_core.proofs.pools.PoolCheck.add_domains.Given as goal
 
 -- what is left gives the same

@@ -1,6 +1,6 @@
 use Rattle.std.proofs.Common.{arith}
 use Rattle.policy_core.specs.Policy.{placed}
-use Rattle.policy_core.specs.PoolCheck.{name_above}
+use Rattle.policy_core.specs.inside.PoolCheck.{name_above}
 use Rattle.policy_core.proofs.PoolLemmas.{step_of_items, end_of_items}
 use Rattle.policy_core.proofs.pools.PoolCheck.add_named_layers.Goals as goal
 

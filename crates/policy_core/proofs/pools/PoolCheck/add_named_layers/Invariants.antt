@@ -1,6 +1,6 @@
 use Rattle.std.proofs.Common.{◌≡◌, map, drop}
 use Rattle.policy_core.specs.Policy.{placed}
-use Rattle.policy_core.specs.PoolCheck.{name_above, with_layers}
+use Rattle.policy_core.specs.inside.PoolCheck.{name_above, with_layers}
 use Rattle.policy_core.proofs.pools.PoolCheck.add_named_layers.Given as goal
 
 -- what is left gives the same

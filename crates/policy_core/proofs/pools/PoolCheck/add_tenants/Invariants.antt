@@ -1,7 +1,7 @@
 use Rattle.std.proofs.Common.{◌≡◌, drop, codes}
 use Rattle.std.specs.List.{flat_map}
 use Rattle.policy_core.specs.Policy.{below, layers_of_tenant}
-use Rattle.policy_core.specs.PoolCheck.{with_layers}
+use Rattle.policy_core.specs.inside.PoolCheck.{with_layers}
 use Rattle.policy_core.proofs.pools.PoolCheck.add_tenants.Given as goal
 
 -- what is left gives the same

@@ -1,7 +1,7 @@
 use Rattle.std.proofs.Common.{◌≡◌, map, drop}
 use Rattle.std.specs.List.{flat_map}
 use Rattle.policy_core.specs.PathTables.{said_for}
-use Rattle.shaping_merge.specs.Laying.{laid_over}
+use Rattle.shaping_merge.specs.inside.Laying.{laid_over}
 use Rattle.shaping_merge.proofs.merge.Merge.add_source_tables.Given as goal
 
 abbrev pub invariant-loop-table : goal.invariant-loop-table

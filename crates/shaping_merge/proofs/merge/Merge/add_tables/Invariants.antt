@@ -1,6 +1,6 @@
 use Rattle.std.proofs.Common.{◌≡◌, map, drop}
 use Rattle.policy_core.specs.PathTables.{said}
-use Rattle.shaping_merge.specs.Laying.{laid_over}
+use Rattle.shaping_merge.specs.inside.Laying.{laid_over}
 use Rattle.shaping_merge.proofs.merge.Merge.add_tables.Given as goal
 
 abbrev pub invariant-loop-table : goal.invariant-loop-table

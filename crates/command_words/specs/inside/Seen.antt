@@ -1,7 +1,7 @@
 -- An option in front of words, as the program has it.
 use Rattle.std.specs.Prelude.{ℕ, List}
 use Rattle.command_words.specs.declared.options.Given.{Given as GivenWords}
-use Rattle.command_words.specs.Walk.{Front}
+use Rattle.command_words.specs.inside.Walk.{Front}
 use denote.Ref.{Bor}
 
 abbrev pub seen_front : GivenWords × Bor (List (List ℕ)) → Front

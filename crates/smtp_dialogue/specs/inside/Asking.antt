@@ -48,7 +48,8 @@ pub record IsReply (bytes reply left : List ℕ) : Type 0 where
 -- the reply that the bytes begin with, or why they begin with none
 abbrev pub IsAnswer : {T : Type 0} → Result T Lost → List ℕ → List ℕ → Side → Side → Type 0
 IsAnswer (Ok x) bytes reply old new = IsReply bytes reply new.unread
-IsAnswer (Err LinkFault) bytes reply old new = ((heard bytes).what ≡ More) × Rose old.link.faults new.link.faults × (new.link.ended ≡ false)
+IsAnswer (Err LinkFault) bytes reply old new =
+    ((heard bytes).what ≡ More) × Rose old.link.faults new.link.faults × (new.link.ended ≡ false)
 IsAnswer (Err Ended) bytes reply old new = ((heard bytes).what ≡ More) × (new.link.ended ≡ true)
 IsAnswer (Err BadReply) bytes reply old new = (at : ℕ) × ((heard bytes).what ≡ Bad at)
 IsAnswer (Err TooLong) bytes reply old new = (heard bytes).what ≡ heard_as.TooLong
