@@ -11,7 +11,7 @@ pub struct Draw;
 impl<T: Chronicle> Play<Option<T>, View> for Draw {
     ghost use Rattle.turnstile.specs.inside.Steps.{drew};
 
-    ghost then = { drew T.shown };
+    ghost then = { λ _. drew T.shown };
 }
 
 /// Looks at the number served, and takes the value where it is the ticket.
@@ -20,7 +20,7 @@ pub struct Look;
 impl<T: Chronicle> Play<Option<T>, View> for Look {
     ghost use Rattle.turnstile.specs.inside.Steps.{looked};
 
-    ghost then = { looked T.shown };
+    ghost then = { λ _. looked T.shown };
 }
 
 /// Sends the empty slot home.
@@ -29,7 +29,7 @@ pub struct Lay;
 impl<T: Chronicle> Play<Option<T>, View> for Lay {
     ghost use Rattle.turnstile.specs.inside.Steps.{laid};
 
-    ghost then = { laid T.shown };
+    ghost then = { λ _. laid T.shown };
 }
 
 /// Takes the empty slot again.
@@ -38,7 +38,7 @@ pub struct Fetch;
 impl<T: Chronicle> Play<Option<T>, View> for Fetch {
     ghost use Rattle.turnstile.specs.inside.Steps.{fetched};
 
-    ghost then = { fetched T.shown };
+    ghost then = { λ _. fetched T.shown };
 }
 
 /// Puts the value back and serves the next ticket.
@@ -47,7 +47,7 @@ pub struct Hand;
 impl<T: Chronicle> Play<Option<T>, View> for Hand {
     ghost use Rattle.turnstile.specs.inside.Steps.{passed};
 
-    ghost then = { passed T.shown };
+    ghost then = { λ _. passed T.shown };
 }
 
 /// Asks the rule what is true of the pass.
@@ -56,7 +56,7 @@ pub struct Recall;
 impl<T: Chronicle> Play<Option<T>, View> for Recall {
     ghost use Rattle.turnstile.specs.inside.Steps.{recalled};
 
-    ghost then = { recalled T.shown };
+    ghost then = { λ _. recalled T.shown };
 }
 
 /// A new pass comes from pass 0.

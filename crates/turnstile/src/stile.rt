@@ -11,12 +11,11 @@ ghost use Rattle.turnstile.specs.Views.{IsSamePass, newcomer, gave, fresh, joine
 use crate::chronicle::Chronicle;
 use crate::pass::{NoSeat, Pass};
 use crate::steps::{
-    Board, fetch, give_seat, hand_on, join_seats, open_table, take_turn, wake_next,
+    Board, fetch, give_seat, hand_on, join_seats, open_table, take_seat, take_turn, wake_next,
 };
-use atomic_table::{Badge, Refused, Table};
+use atomic_table::{Refused, Table};
 use kumo_base::Memory;
 use std::alloc::{AllocFailed, Global};
-use std::mem;
 use std::snapshot::Snapshot;
 use std::sync::Wait;
 
@@ -87,7 +86,7 @@ impl<T: Chronicle> Turnstile<T> {
             return Err(NoSeat);
         }
         let number = pass.given;
-        let mut seat = mem::replace(&mut pass.badge, Badge::blank()).into_seat::<Option<T>>();
+        let mut seat = take_seat(&mut pass.badge);
         let other = give_seat(&self.table, &mut seat);
         pass.badge = seat.into_badge();
         pass.given = number + 1;
@@ -110,7 +109,7 @@ impl<T: Chronicle> Turnstile<T> {
         ensures own { SameOwn (whose (view pass.old)) (view pass.old).seen.entries (T.shown result).entries }
         ensures numbers { AtMost (view pass.old).seen.counts (T.shown result).counts }
     {
-        let mut seat = mem::replace(&mut pass.badge, Badge::blank()).into_seat::<Option<T>>();
+        let mut seat = take_seat(&mut pass.badge);
         let value = take_turn(&self.table, rt, &mut seat);
         pass.badge = seat.into_badge();
         value
@@ -123,7 +122,7 @@ impl<T: Chronicle> Turnstile<T> {
         ensures table { stile_of pass.new ≡ stile_of pass.old }
         ensures left { view pass.new ≡ left_with (T.shown value) (view pass.old) }
     {
-        let mut seat = mem::replace(&mut pass.badge, Badge::blank()).into_seat::<Option<T>>();
+        let mut seat = take_seat(&mut pass.badge);
         fetch(&self.table, &mut seat);
         let served = hand_on(&self.table, &mut seat, value);
         wake_next(&self.table, served);
@@ -143,13 +142,13 @@ impl<T: Chronicle> Turnstile<T> {
         ensures own { SameOwn (whose (view pass.old)) (view pass.old).seen.entries (view pass.new).seen.entries }
         ensures others_own { SameOwn (whose (view other)) (view other).seen.entries (view pass.new).seen.entries }
     {
-        let mut seat = mem::replace(&mut pass.badge, Badge::blank()).into_seat::<Option<T>>();
+        let mut seat = take_seat(&mut pass.badge);
         let Pass {
-            badge,
+            mut badge,
             number: _,
             given: _,
         } = other;
-        join_seats(&self.table, &mut seat, badge.into_seat::<Option<T>>());
+        join_seats(&self.table, &mut seat, take_seat(&mut badge));
         pass.badge = seat.into_badge();
     }
 
@@ -167,10 +166,10 @@ impl<T: Chronicle> Turnstile<T> {
     {
         let Turnstile { table, seats: _ } = self;
         let Pass {
-            badge,
+            mut badge,
             number: _,
             given: _,
         } = pass;
-        open_table(table, badge.into_seat::<Option<T>>())
+        open_table(table, take_seat(&mut badge))
     }
 }
