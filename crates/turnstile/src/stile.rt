@@ -2,7 +2,7 @@
 //!
 //! It keeps the value in the one slot of a table with two words, the next ticket and the one that is served. Memory is
 //! taken in `new` alone. Each clause below is about the view of a pass: what it has seen, which numbers it has met.
-ghost use Rattle.std.specs.Prelude.{◌≡◌, ℕ, ◌<◌, ◌≤◌, ◌≢◌, [], ◌++◌, List, Some, Contains, IfOk, IfErr, OnOk, OnErr};
+ghost use Rattle.std.specs.Prelude.{◌≡◌, ℕ, ◌<◌, ◌≤◌, ◌≢◌, [], ◌∷◌, ◌++◌, List, Some, Contains, IfOk, IfErr, OnOk, OnErr};
 ghost use Rattle.turnstile.specs.declared.chronicle.Note.{Note};
 ghost use Rattle.turnstile.specs.declared.chronicle.Shown.{Shown};
 ghost use Rattle.turnstile.specs.Entries.{Begins, AtMost, own, SameOwn, AllBy, Follows};
@@ -18,6 +18,23 @@ use kumo_base::Memory;
 use std::alloc::{AllocFailed, Global};
 use std::snapshot::Snapshot;
 use std::sync::Wait;
+
+/// A list of one slot with `value` in it. Where there is no memory the value comes back.
+fn one_slot<T>(alloc: Global, value: T) -> Result<Vec<Option<T>, Global>, (Memory, T)>
+    ensures ok { IfOk result (λ xs. xs.items ≡ Some value ∷ []) }
+    ensures err { IfErr result (λ e. e.1 ≡ value) }
+{
+    let Ok(mut slots) = Vec::with_capacity(alloc, 1) else {
+        return Err((Memory, value));
+    };
+    if let Err(failed) = slots.push(Some(value)) {
+        let AllocFailed { value } = failed;
+        slots.destroy_empty();
+        let Some(value) = value else { unreachable!() };
+        return Err((Memory, value));
+    }
+    Ok(slots)
+}
 
 /// A lock around a value with a history. `seats` is how many passes it has room for, the first with them.
 pub struct Turnstile<T: Chronicle> {
@@ -40,15 +57,10 @@ impl<T: Chronicle> Turnstile<T> {
         ensures err { IfErr result (λ e. e.1 ≡ value) }
     {
         let about = Snapshot::of(&value);
-        let Ok(mut slots) = Vec::with_capacity(alloc, 1) else {
-            return Err((Memory, value));
+        let slots = match one_slot(alloc, value) {
+            Ok(slots) => slots,
+            Err(failed) => return Err(failed),
         };
-        if let Err(failed) = slots.push(Some(value)) {
-            let AllocFailed { value } = failed;
-            slots.destroy_empty();
-            let Some(value) = value else { unreachable!() };
-            return Err((Memory, value));
-        }
         match Table::new(alloc, &[0, 0], slots, &about) {
             Ok((table, seat)) => {
                 let pass = Pass {
@@ -142,12 +154,12 @@ impl<T: Chronicle> Turnstile<T> {
         ensures own { SameOwn (whose (view pass.old)) (view pass.old).seen.entries (view pass.new).seen.entries }
         ensures others_own { SameOwn (whose (view other)) (view other).seen.entries (view pass.new).seen.entries }
     {
-        let mut seat = take_seat(&mut pass.badge);
         let Pass {
             mut badge,
             number: _,
             given: _,
         } = other;
+        let mut seat = take_seat(&mut pass.badge);
         join_seats(&self.table, &mut seat, take_seat(&mut badge));
         pass.badge = seat.into_badge();
     }
