@@ -1,6 +1,9 @@
 //! What each step tells its pass, and what becomes of the views of passes that part or meet.
 //!
 //! The types have no values: they name, for the table, a definition of specs/inside/Steps.antt or specs/Views.antt.
+ghost use Rattle.turnstile.specs.inside.Steps.{drew, looked, laid, fetched, passed, recalled};
+ghost use Rattle.turnstile.specs.Views.{gave, fresh, joined, ended};
+
 use crate::chronicle::Chronicle;
 use crate::view::View;
 use atomic_table::{Join, Play, Split};
@@ -9,8 +12,6 @@ use atomic_table::{Join, Play, Split};
 pub struct Draw;
 
 impl<T: Chronicle> Play<Option<T>, View> for Draw {
-    ghost use Rattle.turnstile.specs.inside.Steps.{drew};
-
     ghost then = { λ _. drew T.shown };
 }
 
@@ -18,8 +19,6 @@ impl<T: Chronicle> Play<Option<T>, View> for Draw {
 pub struct Look;
 
 impl<T: Chronicle> Play<Option<T>, View> for Look {
-    ghost use Rattle.turnstile.specs.inside.Steps.{looked};
-
     ghost then = { λ _. looked T.shown };
 }
 
@@ -27,8 +26,6 @@ impl<T: Chronicle> Play<Option<T>, View> for Look {
 pub struct Lay;
 
 impl<T: Chronicle> Play<Option<T>, View> for Lay {
-    ghost use Rattle.turnstile.specs.inside.Steps.{laid};
-
     ghost then = { λ _. laid T.shown };
 }
 
@@ -36,8 +33,6 @@ impl<T: Chronicle> Play<Option<T>, View> for Lay {
 pub struct Fetch;
 
 impl<T: Chronicle> Play<Option<T>, View> for Fetch {
-    ghost use Rattle.turnstile.specs.inside.Steps.{fetched};
-
     ghost then = { λ _. fetched T.shown };
 }
 
@@ -45,8 +40,6 @@ impl<T: Chronicle> Play<Option<T>, View> for Fetch {
 pub struct Hand;
 
 impl<T: Chronicle> Play<Option<T>, View> for Hand {
-    ghost use Rattle.turnstile.specs.inside.Steps.{passed};
-
     ghost then = { λ _. passed T.shown };
 }
 
@@ -54,8 +47,6 @@ impl<T: Chronicle> Play<Option<T>, View> for Hand {
 pub struct Recall;
 
 impl<T: Chronicle> Play<Option<T>, View> for Recall {
-    ghost use Rattle.turnstile.specs.inside.Steps.{recalled};
-
     ghost then = { λ _. recalled T.shown };
 }
 
@@ -63,8 +54,6 @@ impl<T: Chronicle> Play<Option<T>, View> for Recall {
 pub struct Give;
 
 impl Split<View> for Give {
-    ghost use Rattle.turnstile.specs.Views.{gave, fresh};
-
     ghost left = { gave };
 
     ghost right = { fresh };
@@ -74,8 +63,6 @@ impl Split<View> for Give {
 pub struct Meet;
 
 impl Join<View> for Meet {
-    ghost use Rattle.turnstile.specs.Views.{joined, ended};
-
     ghost both = { joined };
 
     ghost spent = { ended };
