@@ -1,6 +1,8 @@
 -- A step that changes one view keeps the rule, where it keeps these facts.
-use Rattle.std.proofs.Common.{◌≡◌, ◌≢◌, ◌⊎◌, inl, inr, ℕ, zero, suc, ◌+◌, ◌%◌, ◌^◌, ◌<◌, ◌≤◌, List, [], ◌∷◌, ◌++◌, length, set, sym, refl, ap, ◌∙◌, subst, ⊎_elim, arith, Option, Some, None, Bool, true, false, true≢false, length-set, eqb, append_assoc, append-nil, Contains, le_trans}
+use Rattle.std.proofs.Common.{◌≡◌, ◌≢◌, ◌⊎◌, inl, inr, ℕ, zero, suc, ◌+◌, ◌%◌, ◌^◌, ◌<◌, ◌≤◌, List, [], ◌∷◌, ◌++◌, length, set, sym, refl, ap, ◌∙◌, subst, ⊎_elim, arith, Option, Some, None, false, true≢false, length-set, eqb, append_assoc, append-nil, Contains, le_trans}
 use Rattle.std.proofs.lemmas.List.Elements.{filter-append, Contains-append_cases}
+use Rattle.std.proofs.lemmas.Option.{none-some, same_Some}
+use Rattle.std.proofs.lemmas.List.{length-append, nil_from_length}
 use mathlib.Core.Logic.{dite}
 use mathlib.Core.Option.{none, some, some-ne-none, some-injective}
 use mathlib.Core.Option as maybe
@@ -9,7 +11,6 @@ use lib.ListN.{get_elem?}
 use Rattle.atomic_table.specs.Table.{State}
 use Rattle.atomic_table.proofs.Lists.{at_set, set_here, set_else}
 use Rattle.turnstile.specs.declared.chronicle.Note.{Note}
-use Rattle.turnstile.specs.declared.chronicle.Counts.{Counts}
 use Rattle.turnstile.specs.declared.chronicle.Shown.{Shown}
 use Rattle.turnstile.specs.declared.view.View.{View}
 use Rattle.turnstile.specs.Entries.{Begins, AtMost, own}
@@ -28,11 +29,8 @@ has_first two = subst (λ k. 0 < k) (sym two) (omega arith)
 pub has_second : {n : ℕ} → n ≡ 2 → 1 < n
 has_second two = subst (λ k. 1 < k) (sym two) (omega arith)
 
-pub begins_on : (a b c : List Note) → Begins a b → Begins b c → Begins a c
+begins_on : (a b c : List Note) → Begins a b → Begins b c → Begins a c
 begins_on a b c x y = (x.0 ++ y.0, y.1 ∙ ap (λ z. z ++ y.0) x.1 ∙ append_assoc a x.0 y.0)
-
-pub at_most_on : (a b c : Counts) → AtMost a b → AtMost b c → AtMost a c
-at_most_on a b c x y = (le_trans x.0 y.0, le_trans x.1 y.1, le_trans x.2 y.2, le_trans x.3 y.3)
 
 pub waiting_set : (vs : List View) (i : ℕ) (v w : View) → get_elem? vs i ≡ some v → waiting (set vs i w) + waits v.ticket ≡ waiting vs + waits w.ticket
 waiting_set [] i v w e = absurd (some-ne-none v (sym e))
@@ -50,12 +48,10 @@ waiting_few (x ∷ xs) = let h = waiting_few xs in let o = waits_one x.ticket in
 pub by_view : (P : ℕ → View → Type 0) (vs : List View) (id : ℕ) (w : View) → P id w → ((j : ℕ) (u : View) → j ≢ id → get_elem? vs j ≡ some u → P j u) → (j : ℕ) (u : View) → get_elem? (set vs id w) j ≡ some u → P j u
 by_view P vs id w mine others j u e = ⊎_elim (λ (t : (j ≡ id) × (w ≡ u)). subst (λ (x : ℕ × View). P x.0 x.1) (λ i. (sym t.0 i, t.1 i)) mine) (λ (t : (j ≢ id) × (get_elem? vs j ≡ some u)). others j u t.0 t.1) (at_set vs id j w u e)
 
-nil_front : (a b : List Note) → a ++ b ≡ [] → a ≡ []
-nil_front [] b e = refl
-nil_front (x ∷ xs) b e = let h = ap length e in absurd (omega arith)
-
 pub own_front : (w : ℕ) (a b : List Note) → Begins a b → own w b ≡ [] → own w a ≡ []
-own_front w a b x e = nil_front (own w a) (own w x.0) (sym (filter-append (λ n. eqb n.by w) a x.0) ∙ ap (own w) (sym x.1) ∙ e)
+own_front w a b x e =
+    let is = ap length (sym (filter-append (λ n. eqb n.by w) a x.0) ∙ ap (own w) (sym x.1) ∙ e) in
+    let long = length-append (own w a) (own w x.0) in nil_from_length (own w a) (omega arith)
 
 pub only_one : (x w : ℕ) → Contains (x ∷ []) w → w ≡ x
 only_one x w (zero, low, e) = sym e
@@ -70,19 +66,11 @@ in_first x xs w e = (0, omega arith, sym e)
 pub in_rest : (x : ℕ) (xs : List ℕ) (w : ℕ) → Contains xs w → Contains (x ∷ xs) w
 in_rest x xs w (k, low, e) = (suc k, omega (arith, low), e)
 
-abbrev there : {A : Type 0} → Option A → Bool
-there (Some x) = true
-there None = false
-
-abbrev or : {A : Type 0} → A → Option A → A
-or d (Some x) = x
-or d None = d
-
 pub some_not_none : {A : Type 0} (x : A) (o : Option A) → o ≡ None → ¬ (o ≡ Some x)
-some_not_none x o n e = true≢false (sym (ap there e) ∙ ap there n)
+some_not_none x o n e = none-some x (sym n ∙ e)
 
 pub some_same : {A : Type 0} (x y : A) (o : Option A) → o ≡ Some x → o ≡ Some y → x ≡ y
-some_same x y o a b = ap (or x) (sym a ∙ b)
+some_same x y o a b = same_Some x y (sym a ∙ b)
 
 -- the log went on, by entries of the pass id alone
 pub record Grows (id : ℕ) (log log' : Shown) : Type 0 where
@@ -112,7 +100,7 @@ knows_on : (id : ℕ) (log log' : Shown) (u : View) → Grows id log log' → Kn
 knows_on id log log' u g k free = record {
   stem = k.stem ∙ sym g.stem;
   begins = begins_on _ _ _ k.begins g.seen;
-  counts = at_most_on _ _ _ k.counts g.counts;
+  counts = (le_trans k.counts.0 g.counts.0, le_trans k.counts.1 g.counts.1, le_trans k.counts.2 g.counts.2, le_trans k.counts.3 g.counts.3);
   own = λ w c. g.others w (free w c) ∙ k.own w c;
   left = k.left;
   right = k.right;
@@ -232,13 +220,13 @@ module _ {T : Type 0} (shown : T → Shown) (s : State (Option T) View) (r : Kep
           (slot_set ended (sym free) (λ x e. absurd (some_not_none x v.took free e)))
           record {
             number = λ e. absurd (true≢false e);
-            ticket = λ t e. absurd (some_not_none t None refl e);
-            took = λ y e. absurd (some_not_none y None refl e);
+            ticket = λ t e. absurd (none-some t e);
+            took = λ y e. absurd (none-some y e);
             knows = λ e. absurd (true≢false e);
             spent = λ e. (refl, refl);
             met = λ m e c. absurd (true≢false e);
           }
           (λ e. absurd (later e))
-          (λ t e. absurd (some_not_none t None refl e)),
+          (λ t e. absurd (none-some t e)),
       refl,
     )

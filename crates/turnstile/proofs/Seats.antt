@@ -1,26 +1,21 @@
 -- Making, splitting and joining passes keeps the rule, and what closing finds.
-use Rattle.std.proofs.Common.{◌≡◌, ◌≢◌, ℕ, zero, suc, ◌+◌, ◌^◌, ◌<◌, ◌≤◌, eqb, List, [], ◌∷◌, ◌++◌, length, set, sym, refl, ap, ◌∙◌, subst, ⊎_elim, inl, inr, arith, Option, Some, None, Bool, true, false, true≢false, length-set, append-nil, Contains}
+use Rattle.std.proofs.Common.{◌≡◌, ◌≢◌, ℕ, zero, suc, ◌+◌, ◌^◌, ◌<◌, ◌≤◌, eqb, List, [], ◌∷◌, ◌++◌, length, set, sym, refl, ap, ◌∙◌, subst, ⊎_elim, inl, inr, arith, Option, Some, None, Bool, true, false, true≢false, length-set, append-nil, Contains, lt_of_not-le, pos_of_ne-zero, cond, ltb, max, length-append, ltb-true, ltb-false}
 use mathlib.Core.Option.{some, some-ne-none, some-injective}
 use native.Mathlib.Decide.{ℕ_discrete, dec_le}
-use Rattle.std.proofs.Common.{lt_of_not-le, pos_of_ne-zero}
 use lib.ListN.{get_elem?}
 use Rattle.atomic_table.specs.Table.{State, Splits, Joins, opening, Final, Seen}
 use Rattle.atomic_table.proofs.Lists.{set_here, set_else, at_longer}
-use Rattle.std.proofs.lemmas.List.{set_comm}
+use Rattle.std.proofs.lemmas.List.{set_comm, nil_from_length}
+use Rattle.std.proofs.lemmas.Option.{none-some}
 use mathlib.Core.Logic.{dite}
 use Rattle.turnstile.specs.declared.chronicle.Note.{Note}
 use Rattle.turnstile.specs.declared.chronicle.Shown.{Shown}
 use Rattle.turnstile.specs.declared.view.View.{View}
 use Rattle.turnstile.specs.Entries.{Begins, own}
 use Rattle.turnstile.specs.Rule.{waits, waiting, Knows, IsSpent, IsSeated, Apart, IsIn, IsTaken, Kept}
-use Rattle.turnstile.specs.Views.{newcomer, gave, fresh, joined, ended}
-use Rattle.std.proofs.Common.{cond, ltb, max}
-use Rattle.std.proofs.lemmas.List.Elements.{filter-append}
-use lib.ListN.{length-set}
+use Rattle.turnstile.specs.Views.{newcomer, gave, fresh, joined, ended, AllMet, is_there, whose}
+use Rattle.std.proofs.lemmas.List.Elements.{filter-append, Contains-append_cases}
 use Rattle.turnstile.proofs.OneView.{at_below, waiting_set, by_view, no_news, own_front, only_one, split_first, in_first, in_rest, some_not_none, knows_seen, given_all, slot_set, apart_set, still_spent, seated_in, replaced_in_turn, retired}
-use Rattle.std.proofs.lemmas.List.Elements.{Contains-append_cases}
-use Rattle.std.proofs.Common.{length-append, ltb-true, ltb-false}
-use Rattle.turnstile.specs.Views.{AllMet, is_there, whose}
 use Rattle.turnstile.proofs.TurnMoves.{own_apart}
 
 -- what holds of the old views and of the last holds of all
@@ -34,10 +29,6 @@ waiting_end : (vs : List View) (w : View) → waiting (vs ++ w ∷ []) ≡ waiti
 waiting_end [] w = omega arith
 waiting_end (x ∷ xs) w = let h = waiting_end xs w in omega arith
 
-nil_long : (a : List Note) → length a ≡ 0 → a ≡ []
-nil_long [] e = refl
-nil_long (x ∷ xs) e = absurd (omega arith)
-
 -- what stands between two histories with the same entries of a pass has no more of it
 own_between : (w : ℕ) (a b c : List Note) → Begins a b → Begins b c → own w c ≡ own w a → own w c ≡ own w b
 own_between w a b c x y e =
@@ -45,7 +36,7 @@ own_between w a b c x y e =
     let c_is : own w c ≡ own w b ++ own w y.0 = ap (own w) y.1 ∙ filter-append (λ n. eqb n.by w) b y.0 in
     let lb = ap length b_is in let lc = ap length c_is in let le = ap length e in
     let pb = length-append (own w a) (own w x.0) in let pc = length-append (own w b) (own w y.0) in
-    let none_more : own w y.0 ≡ [] = nil_long (own w y.0) (omega arith) in c_is ∙ ap (λ z. own w b ++ z) none_more ∙ append-nil (own w b)
+    let none_more : own w y.0 ≡ [] = nil_from_length (own w y.0) (omega arith) in c_is ∙ ap (λ z. own w b ++ z) none_more ∙ append-nil (own w b)
 
 abbrev tail_of : List Note → List Note
 tail_of [] = []
@@ -64,9 +55,10 @@ two_fronts (m ∷ a) (n ∷ b) x y e h = let r = two_fronts a b x y (ap tail_of 
 fronts : (a b c : List Note) → Begins a c → Begins b c → length a ≤ length b → Begins a b
 fronts a b c x y h = two_fronts a b x.0 y.0 (sym x.1 ∙ y.1) h
 
-pick : (P : List Note → Type 0) (a b : List Note) (t : Bool) → (t ≡ true → P b) → (t ≡ false → P a) → P (cond t b a)
-pick P a b true yes_ no_ = yes_ refl
-pick P a b false yes_ no_ = no_ refl
+-- the longer of two beginnings is one, and begins with both
+both_in : (a b c : List Note) → Begins a c → Begins b c → (t : Bool) → ltb (length a) (length b) ≡ t → Begins (cond t b a) c × Begins a (cond t b a) × Begins b (cond t b a)
+both_in a b c x y true e = (y, fronts a b c x y (let h = ltb-true (length a) (length b) e in omega arith), ([], sym (append-nil b)))
+both_in a b c x y false e = (x, ([], sym (append-nil a)), fronts b a c y x (ltb-false (length a) (length b) e))
 
 own_same : (w : ℕ) (a b c : List Note) → Begins a b → Begins b c → own w c ≡ own w a → own w b ≡ own w a
 own_same w a b c x y e = sym (own_between w a b c x y e) ∙ e
@@ -76,39 +68,25 @@ most a b c x y = omega (arith, x, y)
 
 -- what two passes know is known to the one that met the other
 both_know : (log : Shown) (v w : View) → Knows log v → Knows log w → Knows log (joined v w)
-both_know log v w kv kw = record {
-  stem = kv.stem;
-  begins = seen_on;
-  counts = (most _ _ _ kv.counts.0 kw.counts.0, most _ _ _ kv.counts.1 kw.counts.1, most _ _ _ kv.counts.2 kw.counts.2, most _ _ _ kv.counts.3 kw.counts.3);
-  own = λ m c. ⊎_elim (λ h. own_between m a seen log.entries left_in seen_on (kv.own m h)) (λ h. own_between m b seen log.entries right_in seen_on (kw.own m h))
-      (Contains-append_cases (whose v) (whose w) m c);
-  left = (left_in, λ m c. own_same m a seen log.entries left_in seen_on (kv.own m c));
-  right = (right_in, λ m c. own_same m b seen log.entries right_in seen_on (kw.own m c));
-}
-  where
-    a : List Note
-    a = v.seen.entries
+both_know log v w kv kw =
+    let a = v.seen.entries in
+    let b = w.seen.entries in
+    let seen = (joined v w).seen.entries in
+    let h = both_in a b log.entries kv.begins kw.begins (ltb (length a) (length b)) refl in record {
+      stem = kv.stem;
+      begins = h.0;
+      counts = (most _ _ _ kv.counts.0 kw.counts.0, most _ _ _ kv.counts.1 kw.counts.1, most _ _ _ kv.counts.2 kw.counts.2, most _ _ _ kv.counts.3 kw.counts.3);
+      own = λ m c. ⊎_elim (λ n. own_between m a seen log.entries h.1 h.0 (kv.own m n)) (λ n. own_between m b seen log.entries h.2 h.0 (kw.own m n)) (Contains-append_cases (whose v) (whose w) m c);
+      left = (h.1, λ m c. own_same m a seen log.entries h.1 h.0 (kv.own m c));
+      right = (h.2, λ m c. own_same m b seen log.entries h.2 h.0 (kw.own m c));
+    }
 
-    b : List Note
-    b = w.seen.entries
-
-    seen : List Note
-    seen = cond (ltb (length a) (length b)) b a
-
-    seen_on : Begins seen log.entries
-    seen_on = pick (λ l. Begins l log.entries) a b (ltb (length a) (length b)) (λ _. kw.begins) (λ _. kv.begins)
-
-    left_in : Begins a seen
-    left_in = pick (λ l. Begins a l) a b (ltb (length a) (length b)) (λ e. fronts a b log.entries kv.begins kw.begins (let h = ltb-true (length a) (length b) e in omega arith)) (λ _. ([], sym (append-nil a)))
-
-    right_in : Begins b seen
-    right_in = pick (λ l. Begins b l) a b (ltb (length a) (length b)) (λ _. ([], sym (append-nil b))) (λ e. fronts b a log.entries kw.begins kv.begins (ltb-false (length a) (length b) e))
-
+-- the seat of a pass that has just come
 newly : (next turn : ℕ) (log : Shown) (views : List View) (i : ℕ) (x : Shown) (g : ℕ) → Knows log (record (newcomer i x) { given = g }) → IsSeated next turn log views i (record (newcomer i x) { given = g })
 newly next turn log views i x g k = record {
   number = λ _. refl;
-  ticket = λ t e. absurd (some_not_none t None refl e);
-  took = λ y e. absurd (some_not_none y None refl e);
+  ticket = λ t e. absurd (none-some t e);
+  took = λ y e. absurd (none-some y e);
   knows = λ _. k;
   spent = λ _. (refl, refl);
   met = λ w _ c. absurd (omega (arith, c.1));
@@ -154,8 +132,8 @@ module _ {T : Type 0} (shown : T → Shown) where
         (by_view (IsSeated r.next r.turn r.log all) s.views id (gave v)
         record { number = me.number; ticket = me.ticket; took = me.took; knows = me.knows; spent = me.spent; met = λ w alive c. later w (me.met w alive c) }
         (λ j u _ here. seated_in s.views all later (r.each j u here)));
-    apart = λ i j t x y atx aty tx ty. by_end (λ i x. x.ticket ≡ Some t → i ≡ j) now (fresh v) (λ e. absurd (some_not_none t None refl e))
-        (λ i x herex tx. by_end (λ j y. y.ticket ≡ Some t → i ≡ j) now (fresh v) (λ e. absurd (some_not_none t None refl e)) (λ j y herey ty. apart_now i j t x y herex herey tx ty) j y aty ty)
+    apart = λ i j t x y atx aty tx ty. by_end (λ i x. x.ticket ≡ Some t → i ≡ j) now (fresh v) (λ e. absurd (none-some t e))
+        (λ i x herex tx. by_end (λ j y. y.ticket ≡ Some t → i ≡ j) now (fresh v) (λ e. absurd (none-some t e)) (λ j y herey ty. apart_now i j t x y herex herey tx ty) j y aty ty)
         i x atx tx;
     unborn = λ w high. r.unborn w (let l = long in omega arith);
     head = (gave v, at_longer now (fresh v ∷ []) 0 (gave v) (ap (get_elem? now) (sym id_is) ∙ set_here s.views id (gave v) (at_below s.views id v at)), (let l = long in let n = given_is in omega arith), live);

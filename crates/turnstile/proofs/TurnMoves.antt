@@ -1,5 +1,6 @@
 -- Each step keeps the rule.
-use Rattle.std.proofs.Common.{◌≡◌, ◌≢◌, ℕ, suc, ◌+◌, ◌%◌, ◌^◌, eqb, List, [], ◌∷◌, ◌++◌, set, sym, refl, ap, ◌∙◌, subst, ⊎_elim, inl, inr, arith, Option, Some, None, Bool, true, false, true≢false, append-nil}
+use Rattle.std.proofs.Common.{◌≡◌, ◌≢◌, ℕ, suc, ◌+◌, ◌%◌, ◌^◌, eqb, List, [], ◌∷◌, ◌++◌, set, sym, refl, ap, ◌∙◌, subst, ⊎_elim, inl, inr, arith, Option, Some, None, Bool, true, false, true≢false, append-nil, ne_eqb, cond, slice_set, slice_index}
+use Rattle.std.proofs.lemmas.Option.{none-some, same_Some}
 use mathlib.Core.Logic.{dite}
 use mathlib.Core.Option.{none, some, some-ne-none, some-injective}
 use mathlib.Core.Option as maybe
@@ -14,7 +15,6 @@ use Rattle.turnstile.specs.Entries.{own, Follows}
 use Rattle.turnstile.specs.Rule.{waits, Knows, emptied, IsIn, IsTaken, Kept}
 use Rattle.turnstile.specs.inside.Steps.{drew, looked, passed, laid, fetched, recalled}
 use Rattle.turnstile.specs.Views.{left_with, whose}
-use Rattle.std.proofs.Common.{ne_eqb, cond, slice_set, slice_index}
 use Rattle.std.proofs.Math.Nat.{suc-mod}
 use Rattle.std.proofs.lemmas.List.Elements.{filter-append}
 use Rattle.turnstile.proofs.OneView.{at_below, waiting_set, waiting_few, by_view, some_not_none, some_same, Grows, knows_seen, given_all, holder, slot_set, replaced, replaced_in_turn, own_front}
@@ -70,14 +70,14 @@ module _ {T : Type 0} (shown : T → Shown) (slots id : ℕ) (me : Me (Option T)
             (slot_set shown s r id me.0 at w refl (λ x e. refl))
             record {
               number = seat.number;
-              ticket = λ t e. let same = some_same r.next t (Some r.next) refl e in (omega arith, omega arith);
+              ticket = λ t e. let same = same_Some r.next t e in (omega arith, omega arith);
               took = λ x e. absurd (some_not_none x me.0.took free e);
               knows = seat.knows;
               spent = λ e. absurd (true≢false (sym e ∙ live));
               met = seat.met;
             }
             (λ _. (refl, live))
-            (λ t e. let same = some_same r.next t (Some r.next) refl e in inr (omega arith)),
+            (λ t e. let same = same_Some r.next t e in inr (omega arith)),
         (r.next, ap (λ ws. slice_index ws 0) r.words, refl),
       )
 
@@ -176,7 +176,7 @@ module _ {T : Type 0} (shown : T → Shown) (slots id : ℕ) (me : Me (Option T)
                 record {
                   number = seat.number;
                   ticket = seat.ticket;
-                  took = λ x e. (ticket ∙ ap Some (sym same), some_same x (shown y) (Some (shown y)) e refl ∙ is);
+                  took = λ x e. (ticket ∙ ap Some (sym same), sym (same_Some (shown y) x e) ∙ is);
                   knows = seat.knows;
                   spent = λ e. absurd (true≢false (sym e ∙ live));
                   met = seat.met;
@@ -224,15 +224,15 @@ module _ {T : Type 0} (shown : T → Shown) (slots id : ℕ) (me : Me (Option T)
             (subst (λ z. Grows id z (shown y)) mine.1 (grown me.0.number id x (shown y) (seat.number live) follows))
             record {
               number = seat.number;
-              ticket = λ t e. absurd (some_not_none t None refl e);
-              took = λ x e. absurd (some_not_none x None refl e);
+              ticket = λ t e. absurd (none-some t e);
+              took = λ x e. absurd (none-some x e);
               knows = λ _. knows_seen (shown y) (whose me.0);
               spent = λ e. absurd (true≢false (sym e ∙ live));
               met = seat.met;
             }
             (λ _. (refl, live))
             (λ j u ne here. (
-              λ t e. let h = (r.each j u here).ticket t e in let no_turn : t ≢ r.turn = λ same. alone j u ne here (e ∙ ap Some same) in (omega arith, h.1, λ own. some_not_none t None refl own),
+              λ t e. let h = (r.each j u here).ticket t e in let no_turn : t ≢ r.turn = λ same. alone j u ne here (e ∙ ap Some same) in (omega arith, h.1, λ own. none-some t own),
               λ x e. absurd (none_took j u ne here x e),
             )),
         λ y' carried'. ap (λ c. (w, carried_after c gives)) carried ∙ ap (λ z. (left_with (shown z) me.0, [])) (carried_one y y' carried carried'),
