@@ -1,14 +1,15 @@
 -- The rule of the turnstile: what is true of the two words, the slot and all views between any two steps.
 -- Tickets and turns are counted here without end. The words have them modulo 2 ^ 64.
-use Rattle.std.specs.Prelude.{◌≡◌, ◌⊎◌, ℕ, ◌+◌, ◌%◌, ◌^◌, ◌<◌, ◌≤◌, List, [], ◌∷◌, length, Option, Some, None, true, false, Contains}
+use Rattle.std.specs.Prelude.{◌≡◌, ◌⊎◌, ℕ, ◌+◌, ◌%◌, ◌^◌, ◌<◌, ◌≤◌, List, [], ◌∷◌, length, Option, Some, None, Bool, true, false, Contains}
 use mathlib.Core.Option.{some, none}
 use mathlib.Core.Option as maybe
 use lib.ListN.{get_elem?}
 use Rattle.atomic_table.specs.Table.{State}
 use Rattle.turnstile.specs.declared.chronicle.Shown.{Shown}
 use Rattle.turnstile.specs.declared.view.View.{View}
-use Rattle.turnstile.specs.Entries.{Begins, AtMost, own}
-use Rattle.turnstile.specs.Views.{IsTold}
+use Rattle.turnstile.specs.declared.view.Told.{Told}
+use Rattle.turnstile.specs.Entries.{Begins, AtMost, SameOwn, own}
+use Rattle.turnstile.specs.Views.{IsTold, whose}
 
 abbrev pub waits : Option ℕ → ℕ
 waits (Some t) = 1
@@ -19,15 +20,22 @@ abbrev pub waiting : List View → ℕ
 waiting [] = 0
 waiting (v ∷ vs) = waits v.ticket + waiting vs
 
--- what is true of the history `log` and the view `v` of the pass `i`, where it is not spent
-pub record Knows (log : Shown) (i : ℕ) (v : View) : Type 0 where
-  pub stem : v.seen.stem ≡ log.stem
-  pub seen : Begins v.seen.entries log.entries
-  pub counts : AtMost v.seen.counts log.counts
+-- what is true of the history `log`, where a pass has seen `x`, knows all entries of `numbers`, and was told `a` and `b`
+pub record IsKnown (log : Shown) (numbers : List ℕ) (x : Shown) (a b : Told) : Type 0 where
+  pub stem : x.stem ≡ log.stem
+  pub begins : Begins x.entries log.entries
+  pub counts : AtMost x.counts log.counts
   -- nobody else adds entries with its number, or with that of a pass that it met
-  pub own : (w : ℕ) → (w ≡ i) ⊎ Contains v.met w → own w log.entries ≡ own w v.seen.entries
-  pub left : IsTold v.left v.seen
-  pub right : IsTold v.right v.seen
+  pub own : SameOwn numbers x.entries log.entries
+  pub left : IsTold a x
+  pub right : IsTold b x
+
+abbrev pub Knows : Shown → View → Type 0
+Knows log v = IsKnown log (whose v) v.seen v.left v.right
+
+-- the pass `w` was met
+abbrev pub IsSpent : List View → ℕ → Type 0
+IsSpent views w = (u : View) × (get_elem? views w ≡ some u) × (u.spent ≡ true)
 
 -- what is true of the view `v` at the place `i` of all views
 pub record IsSeated (next turn : ℕ) (log : Shown) (views : List View) (i : ℕ) (v : View) : Type 0 where
@@ -35,19 +43,30 @@ pub record IsSeated (next turn : ℕ) (log : Shown) (views : List View) (i : ℕ
   pub ticket : (t : ℕ) → v.ticket ≡ Some t → (turn ≤ t) × (t < next)
   -- the view whose ticket is served holds the value, if any, and keeps the list that it took
   pub took : (x : Shown) → v.took ≡ Some x → (v.ticket ≡ Some turn) × (x ≡ log)
-  pub knows : v.spent ≡ false → Knows log i v
+  pub knows : v.spent ≡ false → Knows log v
   pub spent : v.spent ≡ true → (v.ticket ≡ None) × (v.took ≡ None)
-  pub met : (w : ℕ) → v.spent ≡ false → Contains v.met w
-      → (w < length views) × ((u : View) → get_elem? views w ≡ some u → u.spent ≡ true)
+  pub met : (w : ℕ) → v.spent ≡ false → Contains v.met w → IsSpent views w
+
+-- tickets out differ
+abbrev pub Apart : List View → Type 0
+Apart views = (i j t : ℕ) (v w : View) → get_elem? views i ≡ some v → get_elem? views j ≡ some w → v.ticket ≡ Some t → w.ticket ≡ Some t → i ≡ j
+
+-- the slot while a pass holds the value: out, or at home with nothing in it
+abbrev pub emptied : {T : Type 0} → Bool → maybe.Option (Option T)
+emptied true = none
+emptied false = some None
 
 module _ {T : Type 0} (shown : T → Shown) where
-  -- the value in the slot stands for the history, or the view that took it holds it
-  abbrev pub Slot : ℕ → Shown → List (maybe.Option (Option T)) → List View → Type 0
-  Slot turn log homes views =
-      ((y : T) × (homes ≡ some (Some y) ∷ []) × (shown y ≡ log)
-      × ((i : ℕ) (v : View) → get_elem? views i ≡ some v → v.took ≡ None))
-      ⊎ ((i : ℕ) × (v : View) × (get_elem? views i ≡ some v) × (v.took ≡ Some log)
-      × (((v.away ≡ true) × (homes ≡ none ∷ [])) ⊎ ((v.away ≡ false) × (homes ≡ some None ∷ []))))
+  -- the value in the slot stands for the history
+  abbrev pub IsIn : Shown → List (maybe.Option (Option T)) → List View → Type 0
+  IsIn log homes views = (y : T) × (homes ≡ some (Some y) ∷ []) × (shown y ≡ log) × ((i : ℕ) (v : View) → get_elem? views i ≡ some v → v.took ≡ None)
+
+  -- a pass holds it
+  abbrev pub IsTaken : Shown → List (maybe.Option (Option T)) → List View → Type 0
+  IsTaken log homes views = (i : ℕ) × (v : View) × (get_elem? views i ≡ some v) × (v.took ≡ Some log) × (homes ≡ emptied v.away ∷ [])
+
+  abbrev pub Slot : Shown → List (maybe.Option (Option T)) → List View → Type 0
+  Slot log homes views = IsIn log homes views ⊎ IsTaken log homes views
 
   pub record Kept (s : State (Option T) View) : Type 0 where
     pub next : ℕ
@@ -57,11 +76,9 @@ module _ {T : Type 0} (shown : T → Shown) where
     pub words : s.words ≡ next % 2 ^ 64 ∷ turn % 2 ^ 64 ∷ []
     pub out : next ≡ turn + waiting s.views
     pub few : length s.views < 2 ^ 32
-    pub slot : Slot turn log s.homes s.views
+    pub slot : Slot log s.homes s.views
     pub each : (i : ℕ) (v : View) → get_elem? s.views i ≡ some v → IsSeated next turn log s.views i v
-    -- tickets out differ
-    pub apart : (i j t : ℕ) (v w : View) → get_elem? s.views i ≡ some v → get_elem? s.views j ≡ some w
-        → v.ticket ≡ Some t → w.ticket ≡ Some t → i ≡ j
+    pub apart : Apart s.views
     -- numbers not yet given have no entries
     pub unborn : (w : ℕ) → length s.views ≤ w → own w log.entries ≡ []
     -- pass 0 counts the numbers given, and is never met

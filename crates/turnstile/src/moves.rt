@@ -1,6 +1,9 @@
 //! What each step tells its pass, and what becomes of the views of passes that part or meet.
 //!
 //! The types have no values: they name, for the table, a definition of specs/inside/Steps.antt or specs/Views.antt.
+ghost use Rattle.turnstile.specs.inside.Steps.{drew, looked, laid, fetched, passed, recalled};
+ghost use Rattle.turnstile.specs.Views.{gave, fresh, joined, ended};
+
 use crate::chronicle::Chronicle;
 use crate::view::View;
 use atomic_table::{Join, Play, Split};
@@ -9,62 +12,48 @@ use atomic_table::{Join, Play, Split};
 pub struct Draw;
 
 impl<T: Chronicle> Play<Option<T>, View> for Draw {
-    ghost use Rattle.turnstile.specs.inside.Steps.{drew};
-
-    ghost then = { drew T.shown };
+    ghost then = { λ _. drew T.shown };
 }
 
 /// Looks at the number served, and takes the value where it is the ticket.
 pub struct Look;
 
 impl<T: Chronicle> Play<Option<T>, View> for Look {
-    ghost use Rattle.turnstile.specs.inside.Steps.{looked};
-
-    ghost then = { looked T.shown };
+    ghost then = { λ _. looked T.shown };
 }
 
 /// Sends the empty slot home.
 pub struct Lay;
 
 impl<T: Chronicle> Play<Option<T>, View> for Lay {
-    ghost use Rattle.turnstile.specs.inside.Steps.{laid};
-
-    ghost then = { laid T.shown };
+    ghost then = { λ _. laid T.shown };
 }
 
 /// Takes the empty slot again.
 pub struct Fetch;
 
 impl<T: Chronicle> Play<Option<T>, View> for Fetch {
-    ghost use Rattle.turnstile.specs.inside.Steps.{fetched};
-
-    ghost then = { fetched T.shown };
+    ghost then = { λ _. fetched T.shown };
 }
 
 /// Puts the value back and serves the next ticket.
 pub struct Hand;
 
 impl<T: Chronicle> Play<Option<T>, View> for Hand {
-    ghost use Rattle.turnstile.specs.inside.Steps.{passed};
-
-    ghost then = { passed T.shown };
+    ghost then = { λ _. passed T.shown };
 }
 
 /// Asks the rule what is true of the pass.
 pub struct Recall;
 
 impl<T: Chronicle> Play<Option<T>, View> for Recall {
-    ghost use Rattle.turnstile.specs.inside.Steps.{recalled};
-
-    ghost then = { recalled T.shown };
+    ghost then = { λ _. recalled T.shown };
 }
 
 /// A new pass comes from pass 0.
 pub struct Give;
 
 impl Split<View> for Give {
-    ghost use Rattle.turnstile.specs.Views.{gave, fresh};
-
     ghost left = { gave };
 
     ghost right = { fresh };
@@ -74,8 +63,6 @@ impl Split<View> for Give {
 pub struct Meet;
 
 impl Join<View> for Meet {
-    ghost use Rattle.turnstile.specs.Views.{joined, ended};
-
     ghost both = { joined };
 
     ghost spent = { ended };

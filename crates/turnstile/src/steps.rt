@@ -3,19 +3,20 @@
 //! A turn takes a ticket, looks at the number served until it is the ticket, and takes the value with that look. While the
 //! pass has the value, the emptied slot is at home with nothing in it, so that the pass can rest as a `Badge`; both ways
 //! of the slot are looks too. Putting the value back and serving the next ticket are one step.
-ghost use Rattle.std.specs.Prelude.{◌≡◌, ◌≢◌, ℕ, ◌+◌, ◌%◌, ◌^◌, ◌<◌, [], ◌∷◌, true, false, Some, None, Contains};
+ghost use Rattle.std.specs.Prelude.{◌≡◌, ◌≢◌, ℕ, ◌+◌, ◌%◌, ◌^◌, ◌<◌, [], ◌∷◌, length, true, false, Some, None, Contains};
 ghost use Rattle.turnstile.specs.declared.chronicle.Shown.{Shown};
 ghost use Rattle.turnstile.specs.Entries.{Begins, Follows, SameOwn, own};
-ghost use Rattle.turnstile.specs.Views.{left_with, gave, fresh, joined, whose, AllMet};
+ghost use Rattle.turnstile.specs.Views.{left_with, gave, fresh, joined, whose, known, AllMet};
 ghost use Rattle.turnstile.specs.Rule.{Knows};
 ghost use Rattle.turnstile.specs.inside.Steps.{HasNoTicket, Waits, Has};
 
 use crate::chronicle::Chronicle;
 use crate::moves::{Draw, Fetch, Give, Hand, Lay, Look, Meet, Recall};
 use crate::view::{InTurn, View};
-use atomic_table::{Seat, Table};
+use atomic_table::{Badge, Seat, Table};
 use std::alloc::Global;
 use std::hint::spin_loop;
+use std::mem;
 use std::snapshot::Snapshot;
 use std::sync::Wait;
 
@@ -31,6 +32,15 @@ const LOOKS: u32 = 100;
 pub type Board<T> = Table<Option<T>, View, Snapshot<T>, InTurn, Global>;
 
 pub type Place<T> = Seat<Option<T>, View>;
+
+/// The seat that a badge stood for. What is left in its place is no seat.
+pub fn take_seat<T: Chronicle>(badge: &mut Badge<View>) -> Place<T>
+    requires one { length badge.old.views ≡ 1 }
+    ensures table { result.table_id ≡ badge.old.table_id }
+    ensures view { result.me ≡ (known badge.old.views, []) }
+{
+    mem::replace(badge, Badge::blank()).into_seat::<Option<T>>()
+}
 
 /// Takes a ticket that no other pass has.
 pub fn draw<T: Chronicle>(board: &Board<T>, seat: &mut Place<T>) -> u64
@@ -48,7 +58,7 @@ pub fn wait_for<T: Chronicle, R: Wait>(board: &Board<T>, rt: &R, seat: &mut Plac
     requires waits { Waits ticket seat.old.me }
     ensures seat { (seat.new.table_id ≡ seat.old.table_id) × (seat.new.id ≡ seat.old.id) }
     ensures took { (y : T) × (seat.new.me ≡ (record seat.old.me.0 { took = Some (T.shown y); away = true }, (0, Some y) ∷ []))
-        × Knows (T.shown y) seat.old.me.0.number seat.old.me.0 }
+        × Knows (T.shown y) seat.old.me.0 }
 {
     let mut looks = 0;
     for _ in rt.forever() {
@@ -94,7 +104,7 @@ pub fn take_turn<T: Chronicle, R: Wait>(board: &Board<T>, rt: &R, seat: &mut Pla
     ensures seat { (seat.new.table_id ≡ seat.old.table_id) × (seat.new.id ≡ seat.old.id) }
     ensures took { (t : ℕ)
         × (seat.new.me ≡ (record seat.old.me.0 { ticket = Some t; took = Some (T.shown result); away = false }, [])) }
-    ensures knows { Knows (T.shown result) seat.old.me.0.number seat.old.me.0 }
+    ensures knows { Knows (T.shown result) seat.old.me.0 }
 {
     let ticket = draw(board, seat);
     wait_for(board, rt, seat, ticket);
@@ -163,8 +173,8 @@ pub fn open_table<T: Chronicle>(board: Board<T>, seat: Place<T>) -> T
         × (board.shared.table_id.words ≡ 2) × (board.shared.table_id.slots ≡ 1) }
     requires first { (seat.me.0.number ≡ 0) × (seat.me.0.spent ≡ false) × (seat.me.0.took ≡ None) × (seat.me.1 ≡ []) }
     requires met { AllMet seat.me.0 }
-    ensures knows { Knows (T.shown result) 0 seat.me.0 }
-    ensures others { (w : ℕ) → w ≢ 0 → ¬ Contains seat.me.0.met w → own w (T.shown result).entries ≡ [] }
+    ensures knows { Knows (T.shown result) seat.me.0 }
+    ensures others { (w : ℕ) → ¬ Contains (whose seat.me.0) w → own w (T.shown result).entries ≡ [] }
 {
     let mut closed = board.close_with(seat);
     let slot = closed.take(0);

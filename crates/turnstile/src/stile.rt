@@ -2,7 +2,7 @@
 //!
 //! It keeps the value in the one slot of a table with two words, the next ticket and the one that is served. Memory is
 //! taken in `new` alone. Each clause below is about the view of a pass: what it has seen, which numbers it has met.
-ghost use Rattle.std.specs.Prelude.{◌≡◌, ℕ, ◌<◌, ◌≤◌, ◌≢◌, [], ◌++◌, List, Some, Contains, IfOk, IfErr, OnOk, OnErr};
+ghost use Rattle.std.specs.Prelude.{◌≡◌, ℕ, ◌<◌, ◌≤◌, ◌≢◌, [], ◌∷◌, ◌++◌, List, Some, Contains, IfOk, IfErr, OnOk, OnErr};
 ghost use Rattle.turnstile.specs.declared.chronicle.Note.{Note};
 ghost use Rattle.turnstile.specs.declared.chronicle.Shown.{Shown};
 ghost use Rattle.turnstile.specs.Entries.{Begins, AtMost, own, SameOwn, AllBy, Follows};
@@ -11,14 +11,30 @@ ghost use Rattle.turnstile.specs.Views.{IsSamePass, newcomer, gave, fresh, joine
 use crate::chronicle::Chronicle;
 use crate::pass::{NoSeat, Pass};
 use crate::steps::{
-    Board, fetch, give_seat, hand_on, join_seats, open_table, take_turn, wake_next,
+    Board, fetch, give_seat, hand_on, join_seats, open_table, take_seat, take_turn, wake_next,
 };
-use atomic_table::{Badge, Refused, Table};
+use atomic_table::{Refused, Table};
 use kumo_base::Memory;
 use std::alloc::{AllocFailed, Global};
-use std::mem;
 use std::snapshot::Snapshot;
 use std::sync::Wait;
+
+/// A list of one slot with `value` in it. Where there is no memory the value comes back.
+fn one_slot<T>(alloc: Global, value: T) -> Result<Vec<Option<T>, Global>, (Memory, T)>
+    ensures ok { IfOk result (λ xs. xs.items ≡ Some value ∷ []) }
+    ensures err { IfErr result (λ e. e.1 ≡ value) }
+{
+    let Ok(mut slots) = Vec::with_capacity(alloc, 1) else {
+        return Err((Memory, value));
+    };
+    if let Err(failed) = slots.push(Some(value)) {
+        let AllocFailed { value } = failed;
+        slots.destroy_empty();
+        let Some(value) = value else { unreachable!() };
+        return Err((Memory, value));
+    }
+    Ok(slots)
+}
 
 /// A lock around a value with a history. `seats` is how many passes it has room for, the first with them.
 pub struct Turnstile<T: Chronicle> {
@@ -41,15 +57,10 @@ impl<T: Chronicle> Turnstile<T> {
         ensures err { IfErr result (λ e. e.1 ≡ value) }
     {
         let about = Snapshot::of(&value);
-        let Ok(mut slots) = Vec::with_capacity(alloc, 1) else {
-            return Err((Memory, value));
+        let slots = match one_slot(alloc, value) {
+            Ok(slots) => slots,
+            Err(failed) => return Err(failed),
         };
-        if let Err(failed) = slots.push(Some(value)) {
-            let AllocFailed { value } = failed;
-            slots.destroy_empty();
-            let Some(value) = value else { unreachable!() };
-            return Err((Memory, value));
-        }
         match Table::new(alloc, &[0, 0], slots, &about) {
             Ok((table, seat)) => {
                 let pass = Pass {
@@ -87,7 +98,7 @@ impl<T: Chronicle> Turnstile<T> {
             return Err(NoSeat);
         }
         let number = pass.given;
-        let mut seat = mem::replace(&mut pass.badge, Badge::blank()).into_seat::<Option<T>>();
+        let mut seat = take_seat(&mut pass.badge);
         let other = give_seat(&self.table, &mut seat);
         pass.badge = seat.into_badge();
         pass.given = number + 1;
@@ -110,7 +121,7 @@ impl<T: Chronicle> Turnstile<T> {
         ensures own { SameOwn (whose (view pass.old)) (view pass.old).seen.entries (T.shown result).entries }
         ensures numbers { AtMost (view pass.old).seen.counts (T.shown result).counts }
     {
-        let mut seat = mem::replace(&mut pass.badge, Badge::blank()).into_seat::<Option<T>>();
+        let mut seat = take_seat(&mut pass.badge);
         let value = take_turn(&self.table, rt, &mut seat);
         pass.badge = seat.into_badge();
         value
@@ -123,7 +134,7 @@ impl<T: Chronicle> Turnstile<T> {
         ensures table { stile_of pass.new ≡ stile_of pass.old }
         ensures left { view pass.new ≡ left_with (T.shown value) (view pass.old) }
     {
-        let mut seat = mem::replace(&mut pass.badge, Badge::blank()).into_seat::<Option<T>>();
+        let mut seat = take_seat(&mut pass.badge);
         fetch(&self.table, &mut seat);
         let served = hand_on(&self.table, &mut seat, value);
         wake_next(&self.table, served);
@@ -143,13 +154,13 @@ impl<T: Chronicle> Turnstile<T> {
         ensures own { SameOwn (whose (view pass.old)) (view pass.old).seen.entries (view pass.new).seen.entries }
         ensures others_own { SameOwn (whose (view other)) (view other).seen.entries (view pass.new).seen.entries }
     {
-        let mut seat = mem::replace(&mut pass.badge, Badge::blank()).into_seat::<Option<T>>();
         let Pass {
-            badge,
+            mut badge,
             number: _,
             given: _,
         } = other;
-        join_seats(&self.table, &mut seat, badge.into_seat::<Option<T>>());
+        let mut seat = take_seat(&mut pass.badge);
+        join_seats(&self.table, &mut seat, take_seat(&mut badge));
         pass.badge = seat.into_badge();
     }
 
@@ -167,10 +178,10 @@ impl<T: Chronicle> Turnstile<T> {
     {
         let Turnstile { table, seats: _ } = self;
         let Pass {
-            badge,
+            mut badge,
             number: _,
             given: _,
         } = pass;
-        open_table(table, badge.into_seat::<Option<T>>())
+        open_table(table, take_seat(&mut badge))
     }
 }

@@ -1,6 +1,6 @@
 -- What each step of a turn tells its pass, of the seat before and after it.
 use Rattle.std.specs.Prelude.{◌≡◌, ℕ, ◌%◌, ◌^◌, [], ◌∷◌, Option, Some, None, Bool, true, false}
-use Rattle.atomic_table.specs.Table.{Me, Step}
+use Rattle.atomic_table.specs.Table.{Me}
 use Rattle.turnstile.specs.declared.chronicle.Shown.{Shown}
 use Rattle.turnstile.specs.declared.view.View.{View}
 use Rattle.turnstile.specs.Entries.{own}
@@ -12,31 +12,31 @@ module _ {T : Type 0} (shown : T → Shown) where
   Sat = Me (Option T) View
 
   -- a ticket that no other has
-  abbrev pub drew : Step (Option T) → Sat → ℕ → Sat → Type 0
-  drew st m found m' = (t : ℕ) × (found ≡ t % 2 ^ 64) × (m' ≡ (record m.0 { ticket = Some t }, m.1))
+  abbrev pub drew : Sat → ℕ → Sat → Type 0
+  drew m found m' = (t : ℕ) × (found ≡ t % 2 ^ 64) × (m' ≡ (record m.0 { ticket = Some t }, m.1))
 
   -- where the ticket is served the value was taken; else nothing changed
-  abbrev pub looked : Step (Option T) → Sat → ℕ → Sat → Type 0
-  looked st m found m' = (t : ℕ) → m.0.ticket ≡ Some t → m.0.took ≡ None → m.0.spent ≡ false → m.1 ≡ []
+  abbrev pub looked : Sat → ℕ → Sat → Type 0
+  looked m found m' = (t : ℕ) → m.0.ticket ≡ Some t → m.0.took ≡ None → m.0.spent ≡ false → m.1 ≡ []
       → (found ≡ t % 2 ^ 64 → (y : T) × (m' ≡ (record m.0 { took = Some (shown y); away = true }, (0, Some y) ∷ []))
-      × Knows (shown y) m.0.number m.0)
+      × Knows (shown y) m.0)
       × (¬ (found ≡ t % 2 ^ 64) → m' ≡ m)
 
   -- the value was put back, and the turn passed
-  abbrev pub passed : Step (Option T) → Sat → ℕ → Sat → Type 0
-  passed st m found m' = (y : T) → m.1 ≡ (0, Some y) ∷ [] → m' ≡ (left_with (shown y) m.0, [])
+  abbrev pub passed : Sat → ℕ → Sat → Type 0
+  passed m found m' = (y : T) → m.1 ≡ (0, Some y) ∷ [] → m' ≡ (left_with (shown y) m.0, [])
 
   -- the empty slot goes home, so that the pass carries nothing while it has the value
-  abbrev pub laid : Step (Option T) → Sat → ℕ → Sat → Type 0
-  laid st m found m' = m' ≡ (record m.0 { away = false }, [])
+  abbrev pub laid : Sat → ℕ → Sat → Type 0
+  laid m found m' = m' ≡ (record m.0 { away = false }, [])
 
   -- and comes back before the value is put into it
-  abbrev pub fetched : Step (Option T) → Sat → ℕ → Sat → Type 0
-  fetched st m found m' = m' ≡ (record m.0 { away = true }, (0, None) ∷ [])
+  abbrev pub fetched : Sat → ℕ → Sat → Type 0
+  fetched m found m' = m' ≡ (record m.0 { away = true }, (0, None) ∷ [])
 
   -- what two passes had seen that met, and that the next number has no entries in what pass 0 has seen
-  abbrev pub recalled : Step (Option T) → Sat → ℕ → Sat → Type 0
-  recalled st m found m' = (m' ≡ m)
+  abbrev pub recalled : Sat → ℕ → Sat → Type 0
+  recalled m found m' = (m' ≡ m)
       × (m.0.spent ≡ false → IsTold m.0.left m.0.seen × IsTold m.0.right m.0.seen
       × (m.0.number ≡ 0 → own m.0.given m.0.seen.entries ≡ []))
 

@@ -1,8 +1,14 @@
 use Rattle.std.proofs.Common.{◌≡◌, arith, refl, ap, ◌∙◌, subst, MatchBool, ◌++◌, ◌∷◌, []}
-use Rattle.turnstile.specs.Entries.{own}
+use Rattle.turnstile.specs.Entries.{own, Follows}
+use Rattle.turnstile.specs.Ledgers.{shown_marks}
 use Rattle.turnstile.specs.Passes.{view}
 use Rattle.turnstile.proofs.Marks.{one_marked}
 use Rattle.turnstile.proofs.ledger.mark_turn.Goals as goal
+
+pub leave-requires-clause-follows : goal.leave-requires-clause-follows
+leave-requires-clause-follows g c =
+    let before = shown_marks c.enter-ledger.result.marks.items in
+    (before, c.enter-ledger.ensures.took, subst (λ n. Follows n before (shown_marks c.add-done.new.self.marks.items)) c.number.ensures c.add-done.ensures.follows)
 
 pub returns-clause-own : goal.returns-clause-own
 returns-clause-own g c =

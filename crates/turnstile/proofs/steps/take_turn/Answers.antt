@@ -1,7 +1,8 @@
 use Rattle.std.proofs.Common.{◌≡◌, sym, ap, ◌∙◌, subst, Some, None, ◌∷◌}
 use Rattle.atomic_table.specs.Table.{rest}
 use Rattle.turnstile.specs.Rule.{Knows}
-use Rattle.turnstile.proofs.TurnMoves.{some_same, carried_one, unticketed}
+use Rattle.turnstile.proofs.OneView.{some_same}
+use Rattle.turnstile.proofs.TurnMoves.{carried_first}
 use Rattle.turnstile.proofs.steps.take_turn.Goals as goal
 
 pub exchange-held-requires : goal.exchange-held-requires
@@ -20,5 +21,5 @@ lay-requires-clause-has g c = let took = c.wait_for.ensures.took in let e = c.ex
 
 pub returns-clause-knows : goal.returns-clause-knows
 returns-clause-knows g c = let took = c.wait_for.ensures.took in let drew = c.draw-ticket.ensures.ticket in
-    let value : took.0 ≡ c.in-Some.value = some_same took.0 c.in-Some.value c.exchange-held.result (carried_one took.0 c.exchange-held.result _ _ (ap (λ m. m.1) took.1) c.exchange-held.ensures.2) c.in-Some.is in
-    let m = c.args.seat.now.me.0 in subst (λ y. Knows (g.T.Chronicle.shown y) m.number m) value (unticketed (g.T.Chronicle.shown took.0) m (Some drew.0) _ (ap (λ m. m.0) drew.2) took.2)
+    let value : took.0 ≡ c.in-Some.value = some_same took.0 c.in-Some.value c.exchange-held.result (carried_first took.0 c.exchange-held.result _ _ (ap (λ m. m.1) took.1) c.exchange-held.ensures.2) c.in-Some.is in
+    subst (λ y. Knows (g.T.Chronicle.shown y) c.args.seat.now.me.0) value (subst (λ m. Knows (g.T.Chronicle.shown took.0) m.0) drew.2 took.2)
