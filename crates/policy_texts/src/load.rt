@@ -3,7 +3,7 @@
 //! `load_policy` is what `check` and `explain` rest on: it has each text read (`stages.rt`) in the order sources, queues,
 //! shaping, MX table, hands what it gives to the next step, and assembles the policy. It keeps nothing but what it answers:
 //! the policy and the keys without effect, or the first fault (`LoadFault`), each of which has its cause in the contract.
-ghost use Rattle.std.specs.Prelude.{◌≡◌, ◌≤◌, ◌∷◌, [], None, IsTrue, IfOk, IfErr};
+ghost use Rattle.std.specs.Prelude.{◌≡◌, ◌≤◌, ◌∷◌, ◌++◌, [], None, IsTrue, IfOk, IfErr};
 ghost use Rattle.kumo_base.specs.Limits.{latest_moment};
 ghost use Rattle.policy_core.specs.Policy.{has_pool, are_entrants_sources, are_sources_named, unknown_pool};
 ghost use Rattle.policy_core.specs.Mx.{are_hosts_named};
@@ -115,14 +115,26 @@ pub fn load_policy<T: Texts, S: Search>(
     ensures texts { (T.seen texts.old).faults ≤ (T.seen texts.new).faults }
     ensures search { (S.seen search.old).faults ≤ (S.seen search.new).faults }
 {
-    let (sources, mut ignored) = take_sources(alloc, texts, names.sources)?;
-    let (queues, mut of_queues) = take_queues(alloc, texts, names.queues)?;
-    ignored.append(&mut of_queues)?;
-    let (shaping, mut of_shaping) = take_shaping(alloc, texts, names.shaping, search)?;
-    ignored.append(&mut of_shaping)?;
+    let (sources, of_sources) = take_sources(alloc, texts, names.sources)?;
+    let (queues, of_queues) = take_queues(alloc, texts, names.queues)?;
+    let (shaping, of_shaping) = take_shaping(alloc, texts, names.shaping, search)?;
     let mx = take_mx(alloc, texts, names.mx)?;
+    let ignored = in_order(of_sources, of_queues, of_shaping)?;
     let policy = assembled(alloc, sources, queues, shaping, mx)?;
     Ok(PolicyTexts { policy, ignored })
+}
+
+/// The keys without effect of sources, then those of queues, then those of shaping.
+fn in_order(
+    mut of_sources: Vec<Ignored>,
+    mut of_queues: Vec<Ignored>,
+    mut of_shaping: Vec<Ignored>,
+) -> Result<Vec<Ignored>, AllocError>
+    ensures { IfOk result (λ all. all.items ≡ of_sources.items ++ of_queues.items ++ of_shaping.items) }
+{
+    of_sources.append(&mut of_queues)?;
+    of_sources.append(&mut of_shaping)?;
+    Ok(of_sources)
 }
 
 /// The policy of these parts, whose one stop is `LAST_MOMENT`.

@@ -20,7 +20,7 @@ use std::alloc::Global;
 use toml::{Table, Value};
 
 /// Why a text gives no document.
-#[derive(Clone, Copy, Debug, PartialEq, Eq)]
+#[derive(Clone, Copy)]
 enum Unread {
     /// It is no TOML in UTF-8.
     NotToml,

@@ -8,7 +8,7 @@ ghost use Rattle.smtp_reply.specs.declared.said.Said.{Said};
 ghost use Rattle.smtp_reply.specs.Reading.{Stands, Makes, after_digit, may_stand, next_place};
 
 /// A digit of a code.
-#[derive(Clone, Copy, Debug, PartialEq, Eq)]
+#[derive(Clone, Copy)]
 pub(crate) enum Digit {
     First,
     Second,
@@ -44,7 +44,7 @@ impl Digit {
 }
 
 /// The text of the line that is being read.
-#[derive(Clone, Copy, Debug, PartialEq, Eq)]
+#[derive(Clone, Copy)]
 pub(crate) struct LineText {
     /// Whether another line follows: `-` stands behind the code.
     pub goes_on: bool,
@@ -55,7 +55,7 @@ pub(crate) struct LineText {
 }
 
 /// Where the next byte stands.
-#[derive(Clone, Copy, Debug, PartialEq, Eq)]
+#[derive(Clone, Copy)]
 pub(crate) enum Place {
     /// At this digit of the line's code.
     Code(Digit),
@@ -68,7 +68,7 @@ pub(crate) enum Place {
 }
 
 /// What a byte makes of the front of a reply.
-#[derive(Clone, Copy, Debug, PartialEq, Eq)]
+#[derive(Clone, Copy)]
 pub(crate) enum Next {
     /// A whole reply.
     Whole,

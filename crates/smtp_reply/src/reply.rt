@@ -1,7 +1,7 @@
 //! A reply of a receiver, and what becomes of one attempt.
-ghost use Rattle.std.specs.Prelude.{◌≡◌, ◌↔◌, ◌+◌, ◌/◌, ◌==◌, ◌&&◌, ◌∷◌, [], nat_le, bytes_eq, length, IsTrue};
+ghost use Rattle.std.specs.Prelude.{◌≡◌, ◌↔◌, ◌∷◌, [], bytes_eq, IsTrue};
 ghost use Rattle.std.specs.List.{list_all};
-ghost use Rattle.smtp_reply.specs.ReplyText.{IsProperOutcome, digits_of, is_printable, begins_with_code};
+ghost use Rattle.smtp_reply.specs.ReplyText.{IsProperOutcome, IsReplyOf, digits_of, is_printable, begins_with_code};
 
 use kumo_base::{REPLY_TEXT_LIMIT, Text};
 
@@ -58,7 +58,7 @@ impl Outcome {
 impl Reply {
     /// Whether the code is of this class and the text keeps its rules.
     fn is_of_class(&self, class: u16) -> bool
-        ensures { result ≡ (self.now.code / 100 == class && begins_with_code self.now.code self.now.text && list_all is_printable self.now.text && nat_le (length self.now.text) REPLY_TEXT_LIMIT) }
+        ensures { IsTrue result ↔ IsReplyOf class self.now }
     {
         self.code / 100 == class
             && begins_with_code(self.code, self.text.as_str().as_bytes())

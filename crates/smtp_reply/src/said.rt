@@ -15,7 +15,7 @@ use kumo_base::Room;
 const CODE_LENGTH: usize = 3;
 
 /// Three digits, as they came.
-#[derive(Clone, Copy, Debug, PartialEq, Eq)]
+#[derive(Clone, Copy)]
 pub(crate) struct Code {
     pub first: u8,
     pub second: u8,

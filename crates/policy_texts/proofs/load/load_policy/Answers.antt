@@ -1,7 +1,6 @@
-use Rattle.std.proofs.Common.{◌∙◌, ap, ◌++◌, List, arith}
+use Rattle.std.proofs.Common.{◌∙◌, arith}
 use Rattle.std.proofs.lemmas.Result.{err_from_is_err_and}
 use Rattle.command_words.specs.SeenCommands.{seen_names}
-use Rattle.policy_core.specs.declared.fault.Ignored.{Ignored}
 use Rattle.sources_policy.specs.SourcesFile.{SourcesFile}
 use Rattle.queues_policy.specs.QueuesFile.{QueuesFile}
 use Rattle.shaping_policy.specs.ShapingFile.{ShapingFile}
@@ -98,7 +97,7 @@ returns-clause-ok g c =
     let same_h = c.in_ok-queues.ensures.told ∙ same_q in
     let same_m = c.in_ok-shaping.ensures.told ∙ same_h in
     let m = c.in_ok-mx.ensures.ok in
-    let s : SourcesFile = record { sources = c.in_ok-sources.sources; ignored = c.in_ok-sources.ignored.items } in
+    let s : SourcesFile = record { sources = c.in_ok-sources.sources; ignored = c.in_ok-sources.of_sources.items } in
     let q : QueuesFile = record { queues = c.in_ok-queues.queues; ignored = c.in_ok-queues.of_queues.items } in
     let h : ShapingFile = record { shaping = c.in_ok-shaping.shaping; ignored = c.in_ok-shaping.of_shaping.items } in
     loads told names s c.in_ok-sources.ensures.ok
@@ -107,4 +106,4 @@ returns-clause-ok g c =
     m.0 (comes_as names.mx same_m m.1)
     c.in_ok-policy.policy _ c.in_ok-policy.ensures.known
     (is_policy s q h c.in_ok-mx.mx m.0 c.in_ok-policy.policy c.in_ok-policy.ensures.ok m.2)
-    (c.in_ok-append-2.ensures.items ∙ ap (λ (front : List Ignored). front ++ h.ignored) c.in_ok-append.ensures.items)
+    c.in_ok-ignored.ensures
