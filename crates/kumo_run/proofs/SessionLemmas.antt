@@ -12,7 +12,7 @@ use Rattle.smtp_reply.specs.declared.reply.Outcome.{Outcome}
 use Rattle.smtp_reply.specs.declared.reply.Outcome.TheVariants.{Delivered}
 use Rattle.kumo_outside.proofs.ToldLemmas.{extended-told, TakesFront-whole, TakesFront-more, TakesProperFront-more}
 use Rattle.smtp_dialogue.specs.Transcript.{Spoken, Standing, alive, over, waiting, is_alive, joined_at, followed_by, greeting, attempted, parting, attempts, before_parting, transcript, IsFront}
-use Rattle.smtp_dialogue.specs.Speaks.{Side, side, IsWhole, IsCutShort, Speaks, with_more, IsStable}
+use Rattle.smtp_dialogue.specs.Speaks.{Side, side, WentThrough, IsCutShort, Speaks, with_more, IsStable}
 use Rattle.smtp_dialogue.proofs.Stability.{parts_stable, greeting_stable, attempts_stable}
 use Rattle.smtp_dialogue.proofs.Following.{followed}
 use Rattle.policy_core.specs.Limits.{localhost}
@@ -42,7 +42,7 @@ pub record Shows (t : Spoken) (old new : Side) : Type 0 where
   pub whole : (Rose old.link.faults new.link.faults → ⊥) → new.link.sent ≡ extended old.link.sent t.sent
   pub ended : (Rose old.link.faults new.link.faults → ⊥) → t.standing ≡ waiting → new.link.ended ≡ true
 
-shows_whole : (t : Spoken) (old new : Side) (outcomes : List Outcome) (a : Bool) → IsWhole t old new outcomes a → Shows t old new
+shows_whole : (t : Spoken) (old new : Side) (outcomes : List Outcome) (a : Bool) → WentThrough t old new outcomes a → Shows t old new
 shows_whole t old new outcomes a w = record {
   front = TakesFront-whole old.link.sent new.link.sent t.sent w.sent;
   whole = λ calm. w.sent;
@@ -60,7 +60,7 @@ pub shows : (part : List ℕ → Spoken) (old new : Side) (f outcomes : List Out
 shows part old new f outcomes a x = elim x.spoke [ inl w ↦ shows_whole _ old new outcomes a w | inr c ↦ shows_cut _ old new f outcomes a c ]
 
 -- the same of a part that left the link not alive and parts that would come behind it
-shows_whole_halted : (first : Spoken) (next : List ℕ → Spoken) (old new : Side) (outcomes : List Outcome) → IsWhole first old new outcomes false → Shows (followed_by first next) old new
+shows_whole_halted : (first : Spoken) (next : List ℕ → Spoken) (old new : Side) (outcomes : List Outcome) → WentThrough first old new outcomes false → Shows (followed_by first next) old new
 shows_whole_halted first next old new outcomes w = rw (standing_not_alive first.standing first next w.alive_is) (shows_whole first old new outcomes false w)
 
 shows_cut_halted : (first : Spoken) (next : List ℕ → Spoken) (old new : Side) (f outcomes : List Outcome) → IsCutShort first old new f outcomes false → Shows (followed_by first next) old new
@@ -80,7 +80,7 @@ shows_halted first second old new f outcomes x =
     ]
 
 -- a part without outcomes that left the link not alive speaks for the parts behind it too
-halts_whole : (first : Spoken) (next : List ℕ → Spoken) (old new : Side) → IsWhole first old new [] false → IsWhole (followed_by first next) old new [] false
+halts_whole : (first : Spoken) (next : List ℕ → Spoken) (old new : Side) → WentThrough first old new [] false → WentThrough (followed_by first next) old new [] false
 halts_whole first next old new w = rw (standing_not_alive first.standing first next w.alive_is) w
 
 halts_cut : (first : Spoken) (next : List ℕ → Spoken) (old new : Side) → IsCutShort first old new [] [] false → IsCutShort (followed_by first next) old new [] [] false
@@ -127,7 +127,7 @@ speaks_attempts m s1 s2 f outcomes a x = record {
   grows = x.grows;
   later = x.later;
   spoke =
-      let P : Spoken → Type 0 = λ t. IsWhole t s1 s2 outcomes a ⊎ IsCutShort t s1 s2 f outcomes a in
+      let P : Spoken → Type 0 = λ t. WentThrough t s1 s2 outcomes a ⊎ IsCutShort t s1 s2 f outcomes a in
       subst P (sym (attempts_one m (s1.unread ++ x.more))) x.spoke;
 }
 
@@ -173,7 +173,7 @@ module _ (m : Message) (k : LinkSeen) (fresh : IsFreshLink k) where
       let la = ap length a in let lb = ap length b in let lc = ap length c in
       omega (arith, simp length-append at la, simp length-append at lb, lc)
 
-  undelivered_whole : (t : Spoken) (new : Side) (outcomes : List Outcome) → IsWhole t (side k []) new outcomes false → t.standing ≡ alive → ⊥
+  undelivered_whole : (t : Spoken) (new : Side) (outcomes : List Outcome) → WentThrough t (side k []) new outcomes false → t.standing ≡ alive → ⊥
   undelivered_whole t new outcomes w through = false≢true (w.alive_is ∙ ap is_alive through)
 
   undelivered_cut : (t : Spoken) (new : Side) (at_fault outcomes : List Outcome) (sent : List ℕ) → IsCutShort t (side k []) new at_fault outcomes false

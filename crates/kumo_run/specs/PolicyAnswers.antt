@@ -4,13 +4,13 @@ use Rattle.policy_core.specs.Policy.{Policy}
 use Rattle.policy_core.specs.declared.fault.Ignored.{Ignored}
 use Rattle.command_words.specs.Commands.{TextNames, Question}
 use Rattle.policy_texts.specs.Policies.{Loads}
-use Rattle.policy_texts.specs.Report.{IsReport}
+use Rattle.policy_texts.specs.Report.{IsCheckReport}
 use Rattle.policy_texts.specs.Explained.{explanation}
 
 -- the report on the keys without effect of texts that give a policy
 abbrev pub IsCheckText : (List ℕ → Option (List ℕ)) → TextNames → List ℕ → Type 0
 IsCheckText told names text =
-    (policy : Policy) × (ignored : List Ignored) × Loads told names policy ignored × IsReport ignored text
+    (policy : Policy) × (ignored : List Ignored) × Loads told names policy ignored × IsCheckReport ignored text
 
 -- what the policy that the texts give says of the queue's name and the source
 abbrev pub IsExplainText : (List ℕ → Option (List ℕ)) → Question → List ℕ → Type 0

@@ -5,7 +5,7 @@
 ghost use Rattle.std.specs.Prelude.{◌≡◌, ◌≤◌, IfOk, IfErr, IsTrue, string_bytes};
 ghost use Rattle.queue_name.specs.QueueName.{is_name};
 ghost use Rattle.command_words.specs.SeenCommands.{seen_names, seen_question};
-ghost use Rattle.policy_texts.specs.Report.{IsReport};
+ghost use Rattle.policy_texts.specs.Report.{IsCheckReport};
 ghost use Rattle.policy_texts.specs.Explained.{explanation};
 ghost use Rattle.kumo_run.specs.PolicyAnswers.{IsCheckText, IsExplainText};
 ghost use Rattle.kumo_run.specs.inside.PolicyCauses.{RefusesPolicy, refusal_of_load};
@@ -57,7 +57,7 @@ pub(crate) fn explain_text<T: Texts, S: Search>(
 
 /// The report on these keys.
 fn report_on(alloc: Global, keys: &[Ignored]) -> Result<String, Refusal>
-    ensures ok { IfOk result (λ text. IsReport keys.now (string_bytes text)) }
+    ensures ok { IfOk result (λ text. IsCheckReport keys.now (string_bytes text)) }
     ensures err { IfErr result (λ why. why ≡ Refusal.Memory) }
 {
     match report_keys(alloc, keys) {

@@ -1,7 +1,7 @@
 //! Why one line gives no row, and the refusal that is reported of a text.
 ghost use Rattle.std.specs.Prelude.{◌≡◌, ◌++◌, IfOk, codes, decimal};
 ghost use Rattle.mx_table.specs.MxText.{line_fault};
-ghost use Rattle.mx_table.specs.inside.Causes.{IsReport};
+ghost use Rattle.mx_table.specs.inside.Causes.{IsRowFault};
 
 use itoa::Buffer;
 use kumo_base::{Memory, Text};
@@ -29,7 +29,7 @@ impl From<Memory> for RowFault {
 
 /// The report of a refused line.
 pub fn report(alloc: Global, line: u64, why: Why) -> PolicyFault
-    ensures { IsReport (line_fault line why) result }
+    ensures { IsRowFault (line_fault line why) result }
 {
     match place(alloc, line) {
         Ok((table, key)) => PolicyFault::At(PolicyPlace {

@@ -26,12 +26,12 @@ abbrev pub firsts : {A : Type 0} → (A → List ℕ) → List A → List A
 firsts name_of items = firsts_but name_of (λ name. false) items
 
 -- a match that says that a site is the provider's: of hosts each one has to end so, of domains one
-abbrev pub says_so : Policy → Site → Match → Bool
-says_so policy site (kind.MxSuffix suffix) = list_all (ends_with suffix) site.hosts
-says_so policy site (kind.DomainSuffix suffix) = list_any (ends_with suffix) (domains_of policy site)
+abbrev pub matches_site : Policy → Site → Match → Bool
+matches_site policy site (kind.MxSuffix suffix) = list_all (ends_with suffix) site.hosts
+matches_site policy site (kind.DomainSuffix suffix) = list_any (ends_with suffix) (domains_of policy site)
 
 unfoldable pub is_provider_of : Policy → Site → Provider → Bool
-is_provider_of policy site p = list_any (says_so policy site) p.matches
+is_provider_of policy site p = list_any (matches_site policy site) p.matches
 
 -- the tables for a site, the later over the earlier: the one for all, those of its providers, those of its domains
 unfoldable pub tables_for : Policy → Site → List ShapeTable
@@ -41,17 +41,17 @@ tables_for policy site =
     ++ map (λ d. d.table) (filter (λ d. is_at_site policy site d.domain) (firsts (λ d. d.domain) policy.shaping.domains)))
 
 -- what one table says
-abbrev pub said : ShapeTable → PathBase
-said shape = record { options = shape.options; rules = shape.rules }
+abbrev pub table_layer : ShapeTable → PathBase
+table_layer shape = record { options = shape.options; rules = shape.rules }
 
 -- and what it says for a source alone; of equal names the first counts
-abbrev pub said_for : List ℕ → ShapeTable → List PathBase
-said_for source shape =
+abbrev pub source_layers : List ℕ → ShapeTable → List PathBase
+source_layers source shape =
     option_to_list (option_map (λ s. record { options = s.options; rules = s.rules }) (find (λ s. bytes_eq s.source source) shape.sources))
 
 -- the layers of a path: the tables for its site, and behind them all what these say for its source, in the same order
 abbrev pub layers_for : List ShapeTable → List ℕ → List PathBase
-layers_for tables source = map said tables ++ flat_map (said_for source) tables
+layers_for tables source = map table_layer tables ++ flat_map (source_layers source) tables
 
 -- layers laid over each other: of an option the last that sets it counts, and rules stand one behind another
 abbrev pub merged : List PathBase → PathBase

@@ -14,7 +14,7 @@ abbrev pub ended_line : List ℕ → List ℕ
 ended_line line = line ++ 10 ∷ []
 
 -- the lines of the keys in byte order, equal lines as often as they come, and then `ok`
-pub record IsReport (keys : List Ignored) (text : List ℕ) : Type 0 where
+pub record IsCheckReport (keys : List Ignored) (text : List ℕ) : Type 0 where
   pub lines : List (List ℕ)
   pub same : IsPermutation (map ignored_line keys) lines
   pub ordered : IsSortedBy (λ a b. is_lt (slice_cmp nat_cmp a b)) lines

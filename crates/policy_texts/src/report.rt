@@ -1,6 +1,6 @@
 //! What `check` prints of policy texts that are read: the keys that have no effect, and `ok`.
 ghost use Rattle.std.specs.Prelude.{◌≡◌, IfOk, map, flat_map, string_bytes};
-ghost use Rattle.policy_texts.specs.Report.{IsReport, ignored_line, ended_line};
+ghost use Rattle.policy_texts.specs.Report.{IsCheckReport, ignored_line, ended_line};
 
 use kumo_base::Memory;
 use policy_core::Ignored;
@@ -8,7 +8,7 @@ use std::alloc::Global;
 
 /// The report on keys without effect: a line for each, in byte order of the lines, and then `ok`.
 pub fn report_keys(alloc: Global, keys: &[Ignored]) -> Result<String, Memory>
-    ensures { IfOk result (λ text. IsReport keys.now (string_bytes text)) }
+    ensures { IfOk result (λ text. IsCheckReport keys.now (string_bytes text)) }
 {
     let mut lines = lines_of(alloc, keys)?;
     lines.sort()?;

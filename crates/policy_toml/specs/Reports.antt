@@ -13,10 +13,10 @@ use Rattle.policy_toml.specs.Places.{fault, first_of, whole_table, named_with}
 abbrev pub reported : PolicyFile → Fault → PolicyPlace
 reported file f = record { file = file; table = named_with f.table f.number; key = f.key; why = f.why }
 
-abbrev pub IsReport : PolicyFile → Fault → PolicyFault → Type 0
-IsReport file f (policy_fault.At place) = place ≡ reported file f
-IsReport file f policy_fault.Memory = ⊤
-IsReport file f policy_fault.Search = ⊥
+abbrev pub IsReportedFault : PolicyFile → Fault → PolicyFault → Type 0
+IsReportedFault file f (policy_fault.At place) = place ≡ reported file f
+IsReportedFault file f policy_fault.Memory = ⊤
+IsReportedFault file f policy_fault.Search = ⊥
 
 -- the refusal of a text that is no document
 abbrev pub IsUnopened : PolicyFile → PolicyFault → Option Members → Type 0

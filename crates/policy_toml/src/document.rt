@@ -8,7 +8,7 @@ ghost use Rattle.toml.specs.Data.{get_member, as_table};
 ghost use Rattle.toml.specs.View.{table_view, view};
 ghost use Rattle.policy_core.specs.declared.fault.Why.TheVariants.{NotToml};
 ghost use Rattle.policy_toml.specs.Places.{joined, fault, whole_table};
-ghost use Rattle.policy_toml.specs.Reports.{IsReport, IsUnopened};
+ghost use Rattle.policy_toml.specs.Reports.{IsReportedFault, IsUnopened};
 ghost use Rattle.policy_toml.specs.Values.{document_in};
 ghost use Rattle.policy_toml.specs.Walks.{is_table, table_at};
 ghost use Rattle.policy_toml.specs.inside.Unread.{IsUnread};
@@ -63,7 +63,7 @@ pub fn open_document(alloc: Global, file: PolicyFile, bytes: &[u8]) -> Result<Ta
 
 /// The refusal of a text that is no TOML.
 fn refused_whole(alloc: Global, file: PolicyFile) -> PolicyFault
-    ensures { IsReport file (fault [] whole_table NotToml) result }
+    ensures { IsReportedFault file (fault [] whole_table NotToml) result }
 {
     let key = match Text::of(alloc, WHOLE_TABLE) {
         Ok(key) => key,

@@ -6,7 +6,7 @@
 ghost use Rattle.std.specs.Prelude.{◌≡◌, ◌∷◌, ◌==◌, ℕ, List, [], Option, Some, None, IfOk, OnOk, OnErr};
 ghost use Rattle.std.specs.Ordering.{is_lt};
 ghost use Rattle.policy_toml.specs.Places.{first_of, fault, fault_cmp, rank_of, fault_in, named, named_with, numbered};
-ghost use Rattle.policy_toml.specs.Reports.{IsReport};
+ghost use Rattle.policy_toml.specs.Reports.{IsReportedFault};
 ghost use Rattle.policy_toml.specs.Walks.{faults_unless_table};
 ghost use Rattle.toml.specs.Data.{get_member};
 ghost use Rattle.toml.specs.View.{table_view};
@@ -129,7 +129,7 @@ impl Fault {
     /// The fault as it is reported, of this file. The top level is named `-`, and a table in a list has its number behind
     /// the name, as `default.automation.2`.
     pub fn reported(self, alloc: Global, file: PolicyFile) -> PolicyFault
-        ensures { IsReport file self result }
+        ensures { IsReportedFault file self result }
     {
         let Fault {
             table,

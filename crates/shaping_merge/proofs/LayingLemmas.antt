@@ -9,7 +9,7 @@ use Rattle.policy_core.specs.declared.shaping.ShapeTable.{ShapeTable}
 use Rattle.policy_core.specs.declared.site.PathBase.{PathBase}
 use Rattle.policy_core.specs.Layers.{last_set}
 use Rattle.policy_core.specs.PathOptions.{no_options, options_over, options_in}
-use Rattle.policy_core.specs.PathTables.{said, said_for, layers_for, merged}
+use Rattle.policy_core.specs.PathTables.{table_layer, source_layers, layers_for, merged}
 use Rattle.shaping_merge.specs.inside.Laying.{laid_over}
 
 or_none : {V : Type 0} (a : Option V) → option_or a None ≡ a
@@ -112,9 +112,9 @@ all_laid f none xs i base whole past left =
 
 -- tables, and then what they say for a source
 pub laid_both : (start first last : PathBase) (tables : List ShapeTable) (source : List ℕ) → start ≡ record { options = no_options; rules = [] }
-    → first ≡ laid_over start (map said tables) → last ≡ laid_over first (flat_map (said_for source) tables)
+    → first ≡ laid_over start (map table_layer tables) → last ≡ laid_over first (flat_map (source_layers source) tables)
     → last ≡ merged (layers_for tables source)
 laid_both start first last tables source s f l =
-    l ∙ ap (λ b. laid_over b (flat_map (said_for source) tables)) f
-    ∙ sym (laid_append start (map said tables) (flat_map (said_for source) tables))
+    l ∙ ap (λ b. laid_over b (flat_map (source_layers source) tables)) f
+    ∙ sym (laid_append start (map table_layer tables) (flat_map (source_layers source) tables))
     ∙ ap (λ b. laid_over b (layers_for tables source)) s ∙ laid_all (layers_for tables source)

@@ -6,7 +6,7 @@
 ghost use Rattle.std.specs.Prelude.{◌≡◌, ◌∷◌, ◌++◌, [], IfOk, OnOk, map, find, bytes_eq, option_map};
 ghost use Rattle.std.specs.List.{flat_map};
 ghost use Rattle.policy_core.specs.PathOptions.{no_options};
-ghost use Rattle.policy_core.specs.PathTables.{base_of, said, said_for};
+ghost use Rattle.policy_core.specs.PathTables.{base_of, table_layer, source_layers};
 ghost use Rattle.shaping_merge.specs.inside.Laying.{laid_over};
 
 use crate::tables::tables_for;
@@ -74,7 +74,7 @@ impl Merge {
 
     /// Lays tables over what there is, each over those before it.
     fn add_tables(&mut self, alloc: Global, tables: &[&ShapeTable]) -> Result<(), Memory>
-        ensures { OnOk result (self.new ≡ laid_over self.old (map said (map (λ table. table.now) tables.now))) }
+        ensures { OnOk result (self.new ≡ laid_over self.old (map table_layer (map (λ table. table.now) tables.now))) }
     {
         for table in tables {
             self.add(alloc, &table.options, table.rules.as_slice())?;
@@ -89,7 +89,7 @@ impl Merge {
         tables: &[&ShapeTable],
         source: &str,
     ) -> Result<(), Memory>
-        ensures { OnOk result (self.new ≡ laid_over self.old (flat_map (said_for source.now) (map (λ table. table.now) tables.now))) }
+        ensures { OnOk result (self.new ≡ laid_over self.old (flat_map (source_layers source.now) (map (λ table. table.now) tables.now))) }
     {
         for table in tables {
             self.add_source_table(alloc, table, source)?;
@@ -105,7 +105,7 @@ impl Merge {
         table: &ShapeTable,
         source: &str,
     ) -> Result<(), Memory>
-        ensures { OnOk result (self.new ≡ laid_over self.old (said_for source.now table.now)) }
+        ensures { OnOk result (self.new ≡ laid_over self.old (source_layers source.now table.now)) }
     {
         if let Some(found) = source_table(table.sources.as_slice(), source) {
             self.add(alloc, &found.options, found.rules.as_slice())?;

@@ -1,7 +1,7 @@
 //! The providers of a site.
 ghost use Rattle.std.specs.Prelude.{◌≡◌, map};
 ghost use Rattle.std.specs.List.{list_all, list_any};
-ghost use Rattle.policy_core.specs.PathTables.{ends_with, says_so, is_provider_of};
+ghost use Rattle.policy_core.specs.PathTables.{ends_with, matches_site, is_provider_of};
 ghost use Rattle.shaping_merge.specs.inside.Domains.{AreDomainsOf};
 
 use kumo_base::Text;
@@ -22,13 +22,13 @@ pub(crate) fn is_provider_of(
         .matches
         .as_slice()
         .iter()
-        .any(|found| says_so(policy, site, domains, found))
+        .any(|found| matches_site(policy, site, domains, found))
 }
 
 /// Whether a match says that a site is the provider's.
-fn says_so(policy: &Policy, site: &Site, domains: &[&str], found: &Match) -> bool
+fn matches_site(policy: &Policy, site: &Site, domains: &[&str], found: &Match) -> bool
     requires { AreDomainsOf policy.now site.now (map (λ domain. domain.now) domains.now) }
-    ensures { result ≡ says_so policy.now site.now found.now }
+    ensures { result ≡ matches_site policy.now site.now found.now }
 {
     match found {
         Match::MxSuffix(suffix) => all_end_with(site.hosts.as_slice(), suffix.as_str()),

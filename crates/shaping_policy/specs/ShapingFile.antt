@@ -140,15 +140,15 @@ is_rule_key key =
 unfoldable pub ignored_at_rule_key : List ℕ → List ℕ → Data → List Ignored
 ignored_at_rule_key place key d = if is_rule_key key then [] else ignored_at file.Shaping place key ∷ []
 
-abbrev pub is_nothing : Action → Bool
-is_nothing act.Nothing = true
-is_nothing act.Suspend = false
-is_nothing act.SuspendTenant = false
-is_nothing act.SuspendCampaign = false
-is_nothing (act.Set setting) = false
+abbrev pub has_no_effect : Action → Bool
+has_no_effect act.Nothing = true
+has_no_effect act.Suspend = false
+has_no_effect act.SuspendTenant = false
+has_no_effect act.SuspendCampaign = false
+has_no_effect (act.Set setting) = false
 
 abbrev pub ignored_action : List ℕ → List Action → List Ignored
-ignored_action place actions = if list_any is_nothing actions then ignored_at file.Shaping place (codes "action") ∷ [] else []
+ignored_action place actions = if list_any has_no_effect actions then ignored_at file.Shaping place (codes "action") ∷ [] else []
 
 unfoldable pub ignored_of_rule : PlacedRule → List Ignored
 ignored_of_rule r =

@@ -8,7 +8,7 @@ ghost use Rattle.toml.specs.View.{items_view, table_view};
 ghost use Rattle.policy_toml.specs.Walks.{over_members};
 ghost use Rattle.shaping_policy.specs.RuleValues.{over_items};
 ghost use Rattle.shaping_policy.specs.inside.Seen.{seen_rule, seen_table};
-ghost use Rattle.shaping_policy.specs.ShapingFile.{ignored_of_table, ignored_at_key, is_known_key, ignored_of_rule, ignored_at_rule_key, is_rule_key, actions_given, is_nothing};
+ghost use Rattle.shaping_policy.specs.ShapingFile.{ignored_of_table, ignored_at_key, is_known_key, ignored_of_rule, ignored_at_rule_key, is_rule_key, actions_given, has_no_effect};
 
 use crate::rule_values::action_at;
 use crate::tables::{FileTable, RuleTable, TableKind, items_at};
@@ -148,7 +148,7 @@ fn is_rule_key(key: &str) -> bool
 
 /// Whether one of a rule's actions sets an option that has no effect here.
 fn does_nothing(actions: &[Value]) -> bool
-    ensures { result ≡ list_any is_nothing (over_items actions_given (items_view actions.now)) }
+    ensures { result ≡ list_any has_no_effect (over_items actions_given (items_view actions.now)) }
 {
     for value in actions {
         if let Ok(Action::Nothing) = action_at(value) {

@@ -4,7 +4,7 @@ use Rattle.std.proofs.lemmas.Bool.{false≢true}
 use Rattle.kumo_outside.specs.Told.{extended, TakesFront, TakesProperFront}
 use Rattle.smtp_reply.specs.declared.reply.Outcome.{Outcome}
 use Rattle.smtp_dialogue.specs.Transcript.{Spoken, Standing, alive, over, waiting, is_alive, joined_at, followed_by}
-use Rattle.smtp_dialogue.specs.Speaks.{Side, IsWhole, IsCutShort, Speaks, with_more, IsStable}
+use Rattle.smtp_dialogue.specs.Speaks.{Side, WentThrough, IsCutShort, Speaks, with_more, IsStable}
 use Rattle.smtp_dialogue.proofs.Parts.{reset_behind}
 use Rattle.kumo_outside.proofs.ToldLemmas.{extended-next, TakesFront-after, TakesProperFront-after}
 
@@ -14,8 +14,8 @@ joined_alive alive first next e = refl
 joined_alive over first next e = absurd (false≢true e)
 joined_alive waiting first next e = absurd (false≢true e)
 
-whole_then_whole : (s0 s1 s2 : Side) (t u v : Spoken) (o1 o2 : List Outcome) (a : Bool) → IsWhole t s0 s1 o1 true → IsWhole u s1 s2 o2 a
-    → v.sent ≡ t.sent ++ u.sent → v.outcomes ≡ t.outcomes ++ u.outcomes → v.standing ≡ u.standing → v.rest ≡ u.rest → IsWhole v s0 s2 (o1 ++ o2) a
+whole_then_whole : (s0 s1 s2 : Side) (t u v : Spoken) (o1 o2 : List Outcome) (a : Bool) → WentThrough t s0 s1 o1 true → WentThrough u s1 s2 o2 a
+    → v.sent ≡ t.sent ++ u.sent → v.outcomes ≡ t.outcomes ++ u.outcomes → v.standing ≡ u.standing → v.rest ≡ u.rest → WentThrough v s0 s2 (o1 ++ o2) a
 whole_then_whole s0 s1 s2 t u v o1 o2 a w x es eo et er = record {
   sent = extended-next s0.link.sent s1.link.sent s2.link.sent t.sent u.sent w.sent x.sent ∙ ap (extended s0.link.sent) (sym es);
   outcomes_are = cc (w.outcomes_are, x.outcomes_are);
@@ -24,7 +24,7 @@ whole_then_whole s0 s1 s2 t u v o1 o2 a w x es eo et er = record {
   waited = λ e. x.waited (sym et ∙ e);
 }
 
-whole_then_short : (s0 s1 s2 : Side) (t u v : Spoken) (o1 f2 o2 : List Outcome) (a : Bool) → s0.link.faults ≤ s1.link.faults → IsWhole t s0 s1 o1 true → IsCutShort u s1 s2 f2 o2 a
+whole_then_short : (s0 s1 s2 : Side) (t u v : Spoken) (o1 f2 o2 : List Outcome) (a : Bool) → s0.link.faults ≤ s1.link.faults → WentThrough t s0 s1 o1 true → IsCutShort u s1 s2 f2 o2 a
     → v.sent ≡ t.sent ++ u.sent → v.outcomes ≡ t.outcomes ++ u.outcomes → v.standing ≡ u.standing → IsCutShort v s0 s2 (o1 ++ f2) (o1 ++ o2) a
 whole_then_short s0 s1 s2 t u v o1 f2 o2 a later w x es eo et = record {
   rose = omega (arith, x.rose);
@@ -48,7 +48,7 @@ joined_is first second unread more1 more2 left s a e =
     ∙ ap (λ (rest : List ℕ). joined_at alive (record { sent = (first (unread ++ more1)).sent; outcomes = (first (unread ++ more1)).outcomes; standing = (first (unread ++ more1)).standing; rest = rest ++ more2 }) second) (sym e)
 
 followed_whole : (first second : List ℕ → Spoken) (s0 s1 s2 : Side) (more1 : List ℕ) (o1 f2 o2 : List Outcome) (a2 : Bool)
-    → IsStable first → s1.link.got ≡ extended s0.link.got more1 → s0.link.faults ≤ s1.link.faults → IsWhole (first (s0.unread ++ more1)) s0 s1 o1 true → Speaks second s1 s2 f2 o2 a2
+    → IsStable first → s1.link.got ≡ extended s0.link.got more1 → s0.link.faults ≤ s1.link.faults → WentThrough (first (s0.unread ++ more1)) s0 s1 o1 true → Speaks second s1 s2 f2 o2 a2
     → Speaks (λ bytes. followed_by (first bytes) second) s0 s2 (o1 ++ f2) (o1 ++ o2) a2
 followed_whole first second s0 s1 s2 more1 o1 f2 o2 a2 s grows later w y =
     let t = first (s0.unread ++ more1) in

@@ -10,13 +10,13 @@ use Rattle.smtp_reply.specs.declared.reader.Heard.{Heard}
 use Rattle.smtp_reply.specs.Replies.{heard, code_of, one_line_text}
 use Rattle.smtp_dialogue.specs.Body.{crlf}
 use Rattle.smtp_dialogue.specs.Transcript.{Spoken, Standing, over, waiting, is_alive, ends, says, on_heard, answered}
-use Rattle.smtp_dialogue.specs.Speaks.{Side, IsWhole, IsCutAtReset, IsCutShort, Speaks}
+use Rattle.smtp_dialogue.specs.Speaks.{Side, WentThrough, IsCutAtReset, IsCutShort, Speaks}
 use Rattle.smtp_dialogue.specs.inside.Asking.{Sends, FailsToSend, IsReply, IsAnswer, Hears, FailsToAsk, Asks}
 use Rattle.smtp_dialogue.specs.inside.Tries.{standing_of}
 use Rattle.kumo_outside.proofs.ToldLemmas.{extended-next, extended-nil, TakesFront-after, TakesProperFront-after, TakesProperFront-more, TakesFront-proper, TakesFront-whole}
 use Rattle.smtp_dialogue.proofs.Stability.{answered_whole}
 
-whole_behind : (old mid new : Side) (words : List ℕ) (v t : Spoken) (o : List Outcome) (a : Bool) → mid.link.sent ≡ extended old.link.sent words → v ≡ says words t → IsWhole t mid new o a → IsWhole v old new o a
+whole_behind : (old mid new : Side) (words : List ℕ) (v t : Spoken) (o : List Outcome) (a : Bool) → mid.link.sent ≡ extended old.link.sent words → v ≡ says words t → WentThrough t mid new o a → WentThrough v old new o a
 whole_behind old mid new words v t o a m e w = record {
   sent = extended-next old.link.sent mid.link.sent new.link.sent words t.sent m w.sent ∙ ap (λ (s : Spoken). extended old.link.sent s.sent) (sym e);
   outcomes_are = w.outcomes_are ∙ ap (λ (s : Spoken). s.outcomes) (sym e);
@@ -74,13 +74,13 @@ speaks_ends part old f o true e = record {
   more = [];
   grows = sym (extended-nil old.link.got);
   later = omega arith;
-  spoke = inl (subst (λ (t : Spoken). IsWhole t old old o true) (sym (e (old.unread ++ []))) (record { sent = sym (extended-nil old.link.sent); outcomes_are = refl; alive_is = refl; left = λ _. sym (append-nil old.unread); waited = λ w. absurd (let n : true ≡ false = ap is_alive w in false≢true (sym n)) }));
+  spoke = inl (subst (λ (t : Spoken). WentThrough t old old o true) (sym (e (old.unread ++ []))) (record { sent = sym (extended-nil old.link.sent); outcomes_are = refl; alive_is = refl; left = λ _. sym (append-nil old.unread); waited = λ w. absurd (let n : true ≡ false = ap is_alive w in false≢true (sym n)) }));
 }
 speaks_ends part old f o false e = record {
   more = [];
   grows = sym (extended-nil old.link.got);
   later = omega arith;
-  spoke = inl (subst (λ (t : Spoken). IsWhole t old old o false) (sym (e (old.unread ++ []))) (record { sent = sym (extended-nil old.link.sent); outcomes_are = refl; alive_is = refl; left = λ l. absurd (false≢true l); waited = λ w. absurd (over_not_waiting w) }));
+  spoke = inl (subst (λ (t : Spoken). WentThrough t old old o false) (sym (e (old.unread ++ []))) (record { sent = sym (extended-nil old.link.sent); outcomes_are = refl; alive_is = refl; left = λ l. absurd (false≢true l); waited = λ w. absurd (over_not_waiting w) }));
 }
 
 -- the bytes behind a reply
@@ -113,7 +113,7 @@ asked_then part next lost {words} {old} {mid} {new} {T} {reply} {x} {f} {o} {a} 
 ]
 
 whole_none : (old new : Side) (v : Spoken) (o : List Outcome) (standing : Standing) (bytes : List ℕ) → v ≡ ends o standing bytes → new.link.sent ≡ old.link.sent → is_alive standing ≡ false
-    → (standing ≡ waiting → new.link.ended ≡ true) → IsWhole v old new o false
+    → (standing ≡ waiting → new.link.ended ≡ true) → WentThrough v old new o false
 whole_none old new v o standing bytes e s d w = record {
   sent = s ∙ sym (extended-nil old.link.sent) ∙ ap (λ (t : Spoken). extended old.link.sent t.sent) (sym e);
   outcomes_are = ap (λ (t : Spoken). t.outcomes) (sym e);
@@ -141,7 +141,7 @@ Answers part lost f o BadReply = o ≡ lost BadReply
 Answers part lost f o TooLong = o ≡ lost TooLong
 
 spoke_none : (why : Lost) (part : List ℕ → Spoken) (next : ℕ → List ℕ → List ℕ → Spoken) (lost : Lost → List Outcome) (T : Type 0) (old new : Side) (bytes reply : List ℕ) (f o : List Outcome)
-    → part bytes ≡ answered next lost bytes → new.link.sent ≡ old.link.sent → IsAnswer {T = T} (Err why) bytes reply old new → Answers part lost f o why → IsWhole (part bytes) old new o false ⊎ IsCutShort (part bytes) old new f o false
+    → part bytes ≡ answered next lost bytes → new.link.sent ≡ old.link.sent → IsAnswer {T = T} (Err why) bytes reply old new → Answers part lost f o why → WentThrough (part bytes) old new o false ⊎ IsCutShort (part bytes) old new f o false
 spoke_none LinkFault part next lost T old new bytes reply f o e s h d =
     inr (short_none old new (part bytes) f o (lost Ended) bytes (e ∙ ap (λ (h : Heard). on_heard next lost h (heard bytes).used bytes) h.0) s h.1 h.2 d)
 spoke_none Ended part next lost T old new bytes reply f o e s h d =

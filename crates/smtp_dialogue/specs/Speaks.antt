@@ -16,7 +16,7 @@ abbrev pub side : LinkSeen → List ℕ → Side
 side link unread = record { link = link; unread = unread }
 
 -- the part was gone through: all of it was sent, and its end is what was answered
-pub record IsWhole (t : Spoken) (old new : Side) (outcomes : List Outcome) (is_left_alive : Bool) : Type 0 where
+pub record WentThrough (t : Spoken) (old new : Side) (outcomes : List Outcome) (is_left_alive : Bool) : Type 0 where
   pub sent : new.link.sent ≡ extended old.link.sent t.sent
   pub outcomes_are : outcomes ≡ t.outcomes
   pub alive_is : is_left_alive ≡ is_alive t.standing
@@ -46,7 +46,7 @@ pub record Speaks (part : List ℕ → Spoken) (old new : Side) (at_fault outcom
   pub grows : new.link.got ≡ extended old.link.got more
   pub later : old.link.faults ≤ new.link.faults
   pub spoke :
-      IsWhole (part (old.unread ++ more)) old new outcomes is_left_alive
+      WentThrough (part (old.unread ++ more)) old new outcomes is_left_alive
       ⊎ IsCutShort (part (old.unread ++ more)) old new at_fault outcomes is_left_alive
 
 -- more bytes behind those that a part read are left to read

@@ -1,7 +1,7 @@
 -- What a byte more makes of bytes, by the grammar.
 use Rattle.std.proofs.Common.{◌≡◌, ℕ, ◌==◌, ◌&&◌, ◌||◌, List, [], ◌∷◌, ◌++◌, length, Bool, true, false, refl, ap, ◌∙◌, arith}
 use Rattle.std.proofs.lemmas.Bool.Decides.{nat_tests}
-use Rattle.smtp_reply.specs.Grammar.{is_reply, is_front, lines_of, code_in, is_line_feed, is_code_front, is_code, is_last_line, is_open_line, is_nothing, are_reply_lines, is_line_front, are_front_lines}
+use Rattle.smtp_reply.specs.Grammar.{is_reply, is_front, lines_of, code_in, is_line_feed, is_code_front, is_code, is_last_line, is_open_line, ends_there, are_reply_lines, is_line_front, are_front_lines}
 use Rattle.smtp_reply.proofs.LineLemmas.{lines-feed, lines-byte}
 
 -- each line is one that goes on
@@ -31,7 +31,7 @@ all_open-append code (c ∷ closed) line =
     ap (λ (t : Bool). is_open_line code c && t) (all_open-append code closed line)
     ∙ and_assoc (is_open_line code c) (all_open code closed) (is_open_line code line)
 
-not_nothing : (lines : List (List ℕ)) (line next : List ℕ) → is_nothing (lines ++ line ∷ (next ∷ [])) ≡ false
+not_nothing : (lines : List (List ℕ)) (line next : List ℕ) → ends_there (lines ++ line ∷ (next ∷ [])) ≡ false
 not_nothing [] line next = refl
 not_nothing (c ∷ []) line next = refl
 not_nothing (c ∷ (d ∷ lines)) line next = refl
@@ -55,7 +55,7 @@ not_empty (c ∷ line) b = grind (arith, nat_tests)
 or_none : (p q : Bool) → ((p && false) || (q && false)) ≡ false
 or_none p q = grind arith
 
-not_nothing_by : (c : List ℕ) (lines : List (List ℕ)) (line : List ℕ) → (length line == 0) ≡ false → is_nothing (lines ++ line ∷ []) ≡ false
+not_nothing_by : (c : List ℕ) (lines : List (List ℕ)) (line : List ℕ) → (length line == 0) ≡ false → ends_there (lines ++ line ∷ []) ≡ false
 not_nothing_by c [] line e = e
 not_nothing_by c (d ∷ []) line e = refl
 not_nothing_by c (d ∷ (f ∷ lines)) line e = refl

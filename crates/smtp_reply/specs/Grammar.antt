@@ -47,16 +47,16 @@ abbrev pub is_open_line : List ℕ → List ℕ → Bool
 is_open_line code line = bytes_eq (take 3 line) code && is_going_on (drop 3 line)
 
 -- nothing stands behind the last line feed
-abbrev pub is_nothing : List (List ℕ) → Bool
-is_nothing [] = false
-is_nothing (rest ∷ []) = length rest == 0
-is_nothing (rest ∷ (next ∷ more)) = false
+abbrev pub ends_there : List (List ℕ) → Bool
+ends_there [] = false
+ends_there (rest ∷ []) = length rest == 0
+ends_there (rest ∷ (next ∷ more)) = false
 
 -- lines that go on, and then the last one
 abbrev pub are_reply_lines : List ℕ → List (List ℕ) → Bool
 are_reply_lines code [] = false
 are_reply_lines code (line ∷ more) =
-    (is_last_line code line && is_nothing more) || (is_open_line code line && are_reply_lines code more)
+    (is_last_line code line && ends_there more) || (is_open_line code line && are_reply_lines code more)
 
 -- a whole reply
 abbrev pub is_reply : List ℕ → Bool

@@ -20,7 +20,7 @@ IsBadName (row_fault.Refused why) test = (why ≡ BadName) × (test ≡ false)
 IsBadName row_fault.Memory test = ⊤
 
 -- a fault other than for memory is the report of a refused line
-abbrev pub IsReport : LineFault → PolicyFault → Type 0
-IsReport found (policy_fault.At place) = place ≡ reported found
-IsReport found policy_fault.Memory = ⊤
-IsReport found policy_fault.Search = ⊥
+abbrev pub IsRowFault : LineFault → PolicyFault → Type 0
+IsRowFault found (policy_fault.At place) = place ≡ reported found
+IsRowFault found policy_fault.Memory = ⊤
+IsRowFault found policy_fault.Search = ⊥
