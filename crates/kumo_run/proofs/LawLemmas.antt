@@ -39,7 +39,7 @@ module _ (b a : Outside) (calm : IsCalm b a) where
   refused_well no_command d why good cause = absurd good
   refused_well unbuilt d why good cause = absurd good
   refused_well (policy names) d refusal.Usage good cause = absurd cc
-  refused_well (policy names) d (refusal.Policy f table key why) good cause = absurd (good _ cause)
+  refused_well (policy names) d (refusal.Policy place) good cause = absurd (good _ cause)
   refused_well (policy names) d (refusal.Mail line why) good cause = absurd cause
   refused_well (policy names) d refusal.ReadFault good cause = absurd (calm.texts cause.1)
   refused_well (policy names) d refusal.SearchFault good cause = absurd (calm.search cause.1)
@@ -49,7 +49,7 @@ module _ (b a : Outside) (calm : IsCalm b a) where
   refused_well (policy names) d refusal.NotYetMail good cause = absurd cause
   refused_well (policy names) d refusal.NotYetReply good cause = absurd cause
   refused_well (mail name) d refusal.Usage good cause = absurd cc
-  refused_well (mail name) d (refusal.Policy f table key why) good cause = absurd cause
+  refused_well (mail name) d (refusal.Policy place) good cause = absurd cause
   refused_well (mail name) d (refusal.Mail line why) good cause =
       let says : mail_read good.text ≡ mail_gives (refused_mail line why)
       = said_of (b.texts.told name) good.text (λ found. found ≡ mail_gives (refused_mail line why)) good.told_is cause in

@@ -14,7 +14,7 @@ use Rattle.kumo_run.specs.inside.PolicyCauses.{refusal_of_load, RefusesPolicy}
 module _ (before after : TextsSeen) (searching searched : SearchSeen) (names : TextNames) where
   by_fault : (fault : LoadFault) → HasCauseIn (Stops before.told names) (counts_of before after searching searched) fault
       → RefusesPolicy before after searching searched names (refusal_of_load fault)
-  by_fault (load_fault.Refused f table key why) h = λ b a. (refl, h)
+  by_fault (load_fault.Refused place) h = λ b a. (refl, h)
   by_fault load_fault.Limit h = λ b a. (refl, h)
   by_fault load_fault.ReadFault h = λ b a. (refl, (tt, h))
   by_fault load_fault.SearchFault h = λ b a. (refl, (tt, h))

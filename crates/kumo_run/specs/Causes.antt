@@ -5,7 +5,6 @@ use Rattle.queue_name.specs.declared.message.Message.{Message}
 use Rattle.kumo_outside.specs.declared.session.Session.{Session}
 use Rattle.kumo_outside.specs.Told.{TextsSeen, SinkSeen}
 use Rattle.kumo_outside.specs.Search.{SearchSeen}
-use Rattle.policy_core.specs.declared.fault.PolicyFault.TheVariants.{At}
 use Rattle.mail_input.specs.Inputs.{messages, refused as refused_mail}
 use Rattle.command_words.specs.Commands.{TextNames, Command, check, explain, spool, send, crew, load}
 use Rattle.policy_texts.specs.Texts.{Stop, too_long, refused as refused_text}
@@ -81,7 +80,7 @@ FallsShort m s = IsSessionOf m s × IsNotDelivered m s
 
 abbrev pub Cause : Inputs → Outside → Outside → Deed → Refusal → Type 0
 Cause i b a d refusal.Usage = i ≡ no_command
-Cause i b a d (refusal.Policy f table key why) = PolicyStops i b (refused_text (At f table key why))
+Cause i b a d (refusal.Policy place) = PolicyStops i b (refused_text place)
 Cause i b a d (refusal.Mail line why) = MailGives i b (λ found. found ≡ mail_gives (refused_mail line why))
 Cause i b a d refusal.ReadFault = HasTexts i × Rose b.texts.faults a.texts.faults
 Cause i b a d refusal.SearchFault = HasPolicy i × Rose b.search.faults a.search.faults

@@ -34,7 +34,7 @@ policy_end why = codes ": " ++ (name_of_why why ++ codes "\n")
 
 abbrev pub refusal_line : Refusal → List ℕ
 refusal_line refusal.Usage = codes "error: usage\n"
-refusal_line (refusal.Policy file table key why) = policy_start file ++ (policy_place table key ++ policy_end why)
+refusal_line (refusal.Policy place) = policy_start place.file ++ (policy_place place.table place.key ++ policy_end place.why)
 refusal_line (refusal.Mail line why) = codes "error: mail line " ++ (decimal line ++ end_of_line why)
 refusal_line refusal.ReadFault = codes "error: read fault\n"
 refusal_line refusal.SearchFault = codes "error: search fault\n"
@@ -46,7 +46,7 @@ refusal_line refusal.NotYetReply = codes "error: not yet reply\n"
 
 abbrev pub status_of : Refusal → Status
 status_of refusal.Usage = status.Usage
-status_of (refusal.Policy file table key why) = status.Policy
+status_of (refusal.Policy place) = status.Policy
 status_of (refusal.Mail line why) = status.Mail
 status_of refusal.ReadFault = status.ReadFault
 status_of refusal.SearchFault = status.SearchFault

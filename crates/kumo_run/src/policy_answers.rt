@@ -83,17 +83,7 @@ fn refusal_of_load(fault: LoadFault) -> Refusal
     ensures { result ≡ refusal_of_load fault }
 {
     match fault {
-        LoadFault::Refused {
-            file,
-            table,
-            key,
-            why,
-        } => Refusal::Policy {
-            file,
-            table,
-            key,
-            why,
-        },
+        LoadFault::Refused(place) => Refusal::Policy(place),
         LoadFault::Limit => Refusal::Limit,
         LoadFault::ReadFault => Refusal::ReadFault,
         LoadFault::SearchFault => Refusal::SearchFault,

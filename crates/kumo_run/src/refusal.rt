@@ -6,28 +6,20 @@ ghost use Rattle.kumo_run.specs.RefusalLine.{refusal_line, status_of, end_of_lin
 
 use crate::status::Status;
 use itoa::Buffer;
-use kumo_base::{Failed, Text};
+use kumo_base::Failed;
 use kumo_outside::{Sink, put_all};
 use mail_input::MailWhy;
-use policy_core::{PolicyFile, Why};
+use policy_core::PolicyPlace;
 
 /// Why no work was done.
 #[derive(Drop)]
 pub enum Refusal {
     /// The words are no command.
     Usage,
-    /// This place of a policy text is the first that is at fault. Table and key are `-` where there is none.
-    Policy {
-        file: PolicyFile,
-        table: Text,
-        key: Text,
-        why: Why,
-    },
+    /// This place of a policy text is the first that is at fault.
+    Policy(PolicyPlace),
     /// This line of the mail is the first refused one, for this reason.
-    Mail {
-        line: u64,
-        why: MailWhy,
-    },
+    Mail { line: u64, why: MailWhy },
     /// A text could not be read.
     ReadFault,
     /// The search engine failed on a pattern of the shaping text.
@@ -51,7 +43,7 @@ impl Refusal {
     {
         match self {
             Refusal::Usage => Status::Usage,
-            Refusal::Policy { .. } => Status::Policy,
+            Refusal::Policy(_) => Status::Policy,
             Refusal::Mail { .. } => Status::Mail,
             Refusal::ReadFault => Status::ReadFault,
             Refusal::SearchFault => Status::SearchFault,
@@ -83,12 +75,7 @@ fn put_line<O: Sink>(refusal: &Refusal, out: &mut O) -> Result<(), Failed>
 {
     match refusal {
         Refusal::Usage => put_text(out, "error: usage\n"),
-        Refusal::Policy {
-            file,
-            table,
-            key,
-            why,
-        } => put_policy_line(*file, table.as_str(), key.as_str(), *why, out),
+        Refusal::Policy(place) => put_policy_line(place, out),
         Refusal::Mail { line, why } => put_mail_line(*line, *why, out),
         Refusal::ReadFault => put_text(out, "error: read fault\n"),
         Refusal::SearchFault => put_text(out, "error: search fault\n"),
@@ -101,22 +88,14 @@ fn put_line<O: Sink>(refusal: &Refusal, out: &mut O) -> Result<(), Failed>
 }
 
 /// Puts the line of a refused policy text.
-fn put_policy_line<O: Sink>(
-    file: PolicyFile,
-    table: &str,
-    key: &str,
-    why: Why,
-    out: &mut O,
-) -> Result<(), Failed>
-    ensures whole { OnOk result ((O.seen out.new).told
-        ≡ extended (O.seen out.old).told (refusal_line (Refusal.Policy file table.now key.now why))) }
-    ensures part { OnErr result (TakesFront (O.seen out.old).told (O.seen out.new).told
-        (refusal_line (Refusal.Policy file table.now key.now why))) }
+fn put_policy_line<O: Sink>(place: &PolicyPlace, out: &mut O) -> Result<(), Failed>
+    ensures whole { OnOk result ((O.seen out.new).told ≡ extended (O.seen out.old).told (refusal_line (Refusal.Policy place.now))) }
+    ensures part { OnErr result (TakesFront (O.seen out.old).told (O.seen out.new).told (refusal_line (Refusal.Policy place.now))) }
     ensures cause { HasCause (O.seen out.old).faults (O.seen out.new).faults result }
 {
-    put_three(out, "error: policy ", file.name(), " ")?;
-    put_three(out, table, " ", key)?;
-    put_three(out, ": ", why.name(), "\n")?;
+    put_three(out, "error: policy ", place.file.name(), " ")?;
+    put_three(out, place.table.as_str(), " ", place.key.as_str())?;
+    put_three(out, ": ", place.why.name(), "\n")?;
     Ok(())
 }
 

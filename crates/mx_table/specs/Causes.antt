@@ -21,6 +21,6 @@ IsBadName row_fault.Memory test = ⊤
 
 -- a fault other than for memory is the report of a refused line
 abbrev pub IsReport : LineFault → PolicyFault → Type 0
-IsReport found (policy_fault.At f table key why) = policy_fault.At f table key why ≡ reported found
+IsReport found (policy_fault.At place) = place ≡ reported found
 IsReport found policy_fault.Memory = ⊤
 IsReport found policy_fault.Search = ⊥

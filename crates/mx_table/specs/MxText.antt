@@ -10,6 +10,7 @@ use Rattle.policy_core.specs.declared.fault.Why.TheVariants.{NotText, NoHost, Ba
 use Rattle.policy_core.specs.declared.fault.PolicyFile.TheVariants as file
 use Rattle.policy_core.specs.declared.fault.PolicyFault.{PolicyFault}
 use Rattle.policy_core.specs.declared.fault.PolicyFault.TheVariants as policy_fault
+use Rattle.policy_core.specs.declared.fault.PolicyPlace.{PolicyPlace}
 
 -- words are separated by blanks and tabs
 abbrev pub is_space : ℕ → Bool
@@ -78,11 +79,11 @@ unfoldable pub Joins : List MxRow → List MxRow → Type 0
 Joins table rows = (domain host : List ℕ) → gives table domain host ≡ gives rows domain host
 
 -- a refusal other than for memory names the first line that is refused
-abbrev pub reported : LineFault → PolicyFault
-reported f = policy_fault.At file.Mx (codes "line " ++ decimal f.line) (codes "-") f.why
+abbrev pub reported : LineFault → PolicyPlace
+reported f = record { file = file.Mx; table = codes "line " ++ decimal f.line; key = codes "-"; why = f.why }
 
 abbrev pub IsMxRefusal : PolicyFault → Result (List MxRow) LineFault → Type 0
-IsMxRefusal (policy_fault.At f table key why) read = (found : LineFault) × (read ≡ Err found) × (policy_fault.At f table key why ≡ reported found)
+IsMxRefusal (policy_fault.At place) read = (found : LineFault) × (read ≡ Err found) × (place ≡ reported found)
 IsMxRefusal policy_fault.Memory read = ⊤
 IsMxRefusal policy_fault.Search read = ⊥
 

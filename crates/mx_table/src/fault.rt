@@ -5,7 +5,7 @@ ghost use Rattle.mx_table.specs.Causes.{IsReport};
 
 use itoa::Buffer;
 use kumo_base::{Memory, Text};
-use policy_core::{PolicyFault, PolicyFile, Why};
+use policy_core::{PolicyFault, PolicyFile, PolicyPlace, Why};
 use std::alloc::Global;
 
 /// Why a line gives no row.
@@ -32,12 +32,12 @@ pub fn report(alloc: Global, line: u64, why: Why) -> PolicyFault
     ensures { IsReport (line_fault line why) result }
 {
     match place(alloc, line) {
-        Ok((table, key)) => PolicyFault::At {
+        Ok((table, key)) => PolicyFault::At(PolicyPlace {
             file: PolicyFile::Mx,
             table,
             key,
             why,
-        },
+        }),
         Err(Memory) => PolicyFault::Memory,
     }
 }

@@ -1,5 +1,5 @@
 -- A policy as it is assembled, and what holds of its parts together.
-use Rattle.std.specs.Prelude.{◌≡◌, ℕ, nat_le, List, [], ◌∷◌, ◌++◌, Bool, false, not, ◌&&◌, ◌||◌, Option, Some, None, is_some, if◌then◌else◌, map, bytes_eq, codes, IsTrue, ⊤}
+use Rattle.std.specs.Prelude.{◌≡◌, ℕ, nat_le, List, [], ◌∷◌, ◌++◌, Bool, false, not, ◌&&◌, ◌||◌, Option, Some, None, is_some, option_map, if◌then◌else◌, map, bytes_eq, codes, IsTrue, ⊤}
 use Rattle.std.specs.List.{list_all, list_any, filter, flat_map}
 use Rattle.queue_name.specs.QueueName.{Name}
 use Rattle.kumo_base.specs.Limits.{latest_moment}
@@ -15,6 +15,7 @@ use Rattle.policy_core.specs.declared.mx.MxRow.{MxRow}
 use Rattle.policy_core.specs.declared.fault.PolicyFault.{PolicyFault}
 use Rattle.policy_core.specs.declared.fault.PolicyFault.TheVariants as policy_fault
 use Rattle.policy_core.specs.declared.fault.PolicyFile.TheVariants as file
+use Rattle.policy_core.specs.declared.fault.PolicyPlace.{PolicyPlace}
 use Rattle.policy_core.specs.declared.fault.Why.TheVariants.{UnknownPool}
 use Rattle.policy_core.specs.Layers.{settings_of}
 use Rattle.policy_core.specs.Names.{is_source_name}
@@ -114,9 +115,12 @@ places_of_unknown sources layers = map (λ l. l.place) (filter (λ l. lacks_pool
 unfoldable pub unknown_pool : Sources → Queues → Option (List ℕ)
 unknown_pool sources queues = least_text None (places_of_unknown sources (placed_layers queues))
 
--- a refusal other than for memory names that table
+-- where a pool that is not there is refused, by the name of the table
+abbrev pub unknown_pool_at : List ℕ → PolicyPlace
+unknown_pool_at table = record { file = file.Queues; table = table; key = codes "egress_pool"; why = UnknownPool }
+
+-- a refusal other than for memory is at that table
 abbrev pub IsUnknownPool : PolicyFault → Option (List ℕ) → Type 0
-IsUnknownPool (policy_fault.At f table key why) unknown =
-    (unknown ≡ Some table) × (policy_fault.At f table key why ≡ policy_fault.At file.Queues table (codes "egress_pool") UnknownPool)
+IsUnknownPool (policy_fault.At place) unknown = option_map unknown_pool_at unknown ≡ Some place
 IsUnknownPool policy_fault.Memory unknown = ⊤
 IsUnknownPool policy_fault.Search unknown = ⊥

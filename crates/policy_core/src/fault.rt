@@ -73,16 +73,20 @@ pub enum Why {
     TooMany,
 }
 
+/// The place of a fault of a policy text, and its word. Each of the texts is `-` where there is no table or no key.
+#[derive(Drop)]
+pub struct PolicyPlace {
+    pub file: PolicyFile,
+    pub table: Text,
+    pub key: Text,
+    pub why: Why,
+}
+
 /// Why a policy text gives no value.
 #[derive(Drop)]
 pub enum PolicyFault {
-    /// The place of the fault and its word. Each of the texts is `-` where there is no table or no key.
-    At {
-        file: PolicyFile,
-        table: Text,
-        key: Text,
-        why: Why,
-    },
+    /// The text is refused at this place.
+    At(PolicyPlace),
     /// The search engine failed on a pattern of a shaping file, and counted a fault. No other reader answers it.
     Search,
     /// There was no memory.
@@ -146,6 +150,20 @@ impl Why {
     }
 }
 
+impl PolicyPlace {
+    /// An equal place.
+    pub fn copy(&self, alloc: Global) -> Result<PolicyPlace, Memory>
+        ensures { IfOk result (λ copy. copy ≡ self.now) }
+    {
+        Ok(PolicyPlace {
+            file: self.file,
+            table: self.table.copy(alloc)?,
+            key: self.key.copy(alloc)?,
+            why: self.why,
+        })
+    }
+}
+
 impl From<Memory> for PolicyFault {
     ghost use Rattle.policy_core.specs.declared.fault.PolicyFault.{PolicyFault};
 
@@ -162,17 +180,7 @@ impl PolicyFault {
         ensures { IfOk result (λ copy. copy ≡ self.now) }
     {
         match self {
-            PolicyFault::At {
-                file,
-                table,
-                key,
-                why,
-            } => Ok(PolicyFault::At {
-                file: *file,
-                table: table.copy(alloc)?,
-                key: key.copy(alloc)?,
-                why: *why,
-            }),
+            PolicyFault::At(place) => Ok(PolicyFault::At(place.copy(alloc)?)),
             PolicyFault::Search => Ok(PolicyFault::Search),
             PolicyFault::Memory => Ok(PolicyFault::Memory),
         }

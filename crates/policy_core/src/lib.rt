@@ -23,7 +23,7 @@ mod shaping;
 mod site;
 mod sources;
 
-pub use fault::{Ignored, PolicyFault, PolicyFile, Why};
+pub use fault::{Ignored, PolicyFault, PolicyFile, PolicyPlace, Why};
 pub use mx::{MxRow, MxTable};
 pub use names::{POLICY_NAME_LIMIT, is_host_name, is_source_name};
 pub use options::{

@@ -6,7 +6,7 @@ ghost use Rattle.std.specs.Prelude.{◌≡◌, IsTrue, IfOk, IfErr, None};
 ghost use Rattle.policy_core.specs.Policy.{are_stops, has_base_pool, are_entrants_sources, are_sources_named, unknown_pool, IsUnknownPool};
 ghost use Rattle.policy_core.specs.Mx.{are_hosts_named};
 
-use crate::fault::{PolicyFault, PolicyFile, Why};
+use crate::fault::{PolicyFault, PolicyFile, PolicyPlace, Why};
 use crate::mx::MxTable;
 use crate::pools::unknown_pool;
 use crate::queues::Queues;
@@ -64,12 +64,12 @@ impl Policy {
         ensures err { IfErr result (λ fault. IsUnknownPool fault (unknown_pool sources queues)) }
     {
         if let Some(table) = unknown_pool(alloc, &sources, &queues)? {
-            return Err(PolicyFault::At {
+            return Err(PolicyFault::At(PolicyPlace {
                 file: PolicyFile::Queues,
                 table,
                 key: Text::of(alloc, "egress_pool")?,
                 why: Why::UnknownPool,
-            });
+            }));
         }
         Ok(Policy {
             sources,

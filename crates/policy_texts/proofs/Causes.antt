@@ -3,7 +3,6 @@ use Rattle.std.proofs.Common.{ℕ, ◌≤◌, arith}
 use Rattle.kumo_base.specs.Causes.{Rose}
 use Rattle.policy_texts.specs.declared.load.LoadFault.{LoadFault}
 use Rattle.policy_texts.specs.declared.load.LoadFault.TheVariants as load_fault
-use Rattle.policy_core.specs.declared.fault.PolicyFault.TheVariants.{At}
 use Rattle.policy_texts.specs.Texts.{Stop, too_long, refused}
 use Rattle.policy_texts.specs.Policies.{Counts, HasCauseIn}
 
@@ -19,7 +18,7 @@ rose_since a b c p h = omega arith
 pub cause_as : (P Q : Stop → Type 0) (a b : Counts) (f : LoadFault) → ((stop : Stop) → P stop → Q stop) → HasCauseIn P a f
     → (Rose a.texts_before a.texts_after → Rose b.texts_before b.texts_after)
     → (Rose a.search_before a.search_after → Rose b.search_before b.search_after) → HasCauseIn Q b f
-cause_as P Q a b (load_fault.Refused f table key why) up h by_texts by_search = up (refused (At f table key why)) h
+cause_as P Q a b (load_fault.Refused place) up h by_texts by_search = up (refused place) h
 cause_as P Q a b load_fault.Limit up h by_texts by_search = up too_long h
 cause_as P Q a b load_fault.ReadFault up h by_texts by_search = by_texts h
 cause_as P Q a b load_fault.SearchFault up h by_texts by_search = by_search h

@@ -1,12 +1,14 @@
 -- What four texts give together, and the first reason why they give nothing.
-use Rattle.std.proofs.Common.{◌≡◌, List, [], ◌∷◌, ◌++◌, ℕ, Option, Some, None, Result, Ok, Err, IsTrue, refl, sym, ap, subst, arith, rules}
+use Rattle.std.proofs.Common.{◌≡◌, List, [], ◌∷◌, ◌++◌, ℕ, Option, Some, None, option_map, Result, Ok, Err, IsTrue, refl, ap, subst, arith, rules}
 use Rattle.std.proofs.lemmas.Grind.{common_steps}
+use Rattle.std.proofs.lemmas.Option.{same_Some}
 use Rattle.kumo_base.specs.Limits.{latest_moment}
 use Rattle.policy_core.specs.Limits.{unspecified}
-use Rattle.policy_core.specs.Policy.{Policy, are_stops, has_pool, has_base_pool, unknown_pool, IsUnknownPool}
+use Rattle.policy_core.specs.Policy.{Policy, are_stops, has_pool, has_base_pool, unknown_pool, unknown_pool_at, IsUnknownPool}
 use Rattle.policy_core.specs.declared.fault.Ignored.{Ignored}
 use Rattle.policy_core.specs.declared.fault.PolicyFault.{PolicyFault}
 use Rattle.policy_core.specs.declared.fault.PolicyFault.TheVariants as fault
+use Rattle.policy_core.specs.declared.fault.PolicyPlace.{PolicyPlace}
 use Rattle.policy_core.specs.declared.mx.MxRow.{MxRow}
 use Rattle.policy_core.specs.declared.queues.Queues.{Queues}
 use Rattle.policy_core.specs.declared.sources.Sources.{Sources}
@@ -16,7 +18,7 @@ use Rattle.queues_policy.specs.QueuesFile.{QueuesFile}
 use Rattle.shaping_policy.specs.ShapingFile.{ShapingFile}
 use Rattle.command_words.specs.Commands.{TextNames}
 use Rattle.policy_texts.specs.Texts.{Stop, refused, sources_given, queues_given, shaping_given, mx_given, told_by, MayBe}
-use Rattle.policy_texts.specs.Policies.{IsPolicyOf, Loads, Stops, HasCauseIn, load_fault_of, parts_of, together}
+use Rattle.policy_texts.specs.Policies.{Parts, IsPolicyOf, Loads, Stops, HasCauseIn, load_fault_of, parts_of, together, unless_unknown}
 use Rattle.policy_texts.specs.inside.Stages.{Comes, StopsAtPools, no_counts}
 
 -- the parts fit, where the base pool is there
@@ -29,10 +31,16 @@ pub one_stop : IsTrue (are_stops (latest_moment ∷ []))
 unfolding are_stops
 one_stop = search rules
 
+-- parts whose queues name a pool that is not there stop at its place
+stops_there : (unknown : Option (List ℕ)) (place : PolicyPlace) (parts : Parts) → option_map unknown_pool_at unknown ≡ Some place
+    → unless_unknown unknown parts ≡ Err (refused place)
+stops_there None place parts e = cc
+stops_there (Some table) place parts e = ap (λ p. Err (refused p)) (same_Some (unknown_pool_at table) place e)
+
 -- the cause of a refusal of parts that are put together
 pub pools_cause : (sources : Sources) (queues : Queues) (said : PolicyFault) → IsUnknownPool said (unknown_pool sources queues)
     → HasCauseIn (StopsAtPools sources queues) no_counts (load_fault_of said)
-pools_cause sources queues (fault.At f table key why) h = λ parts. rw h.0 (ap (λ said. Err (refused said)) (sym h.1))
+pools_cause sources queues (fault.At place) h = λ parts. stops_there (unknown_pool sources queues) place parts h
 pools_cause sources queues fault.Search h = absurd h
 pools_cause sources queues fault.Memory h = tt
 

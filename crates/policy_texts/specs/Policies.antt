@@ -1,16 +1,14 @@
 -- What policy texts come to together: a policy and the keys without effect, or the first reason why they give none. The texts
 -- are read one after another, and each is read whole before the next: sources, queues, shaping, mail exchangers.
-use Rattle.std.specs.Prelude.{◌≡◌, ℕ, List, [], ◌∷◌, ◌++◌, Option, Some, None, Result, Ok, Err, codes, ⊤}
+use Rattle.std.specs.Prelude.{◌≡◌, ℕ, List, [], ◌∷◌, ◌++◌, Option, Some, None, Result, Ok, Err, ⊤}
 use Rattle.kumo_base.specs.Causes.{Rose}
 use Rattle.kumo_base.specs.Limits.{latest_moment}
 use Rattle.kumo_outside.specs.Told.{TextsSeen}
 use Rattle.kumo_outside.specs.Search.{SearchSeen}
-use Rattle.policy_core.specs.Policy.{Policy, unknown_pool}
+use Rattle.policy_core.specs.Policy.{Policy, unknown_pool, unknown_pool_at}
 use Rattle.policy_core.specs.declared.fault.Ignored.{Ignored}
-use Rattle.policy_core.specs.declared.fault.PolicyFile.TheVariants as file
 use Rattle.policy_core.specs.declared.fault.PolicyFault.{PolicyFault}
 use Rattle.policy_core.specs.declared.fault.PolicyFault.TheVariants as fault
-use Rattle.policy_core.specs.declared.fault.Why.TheVariants.{UnknownPool}
 use Rattle.policy_core.specs.declared.mx.MxRow.{MxRow}
 use Rattle.policy_core.specs.declared.queues.Queues.{Queues}
 use Rattle.policy_core.specs.declared.shaping.Shaping.{Shaping}
@@ -58,7 +56,7 @@ together s q h rows = record {
 -- a pool that a layer of queues may not name is a reason behind all texts
 abbrev pub unless_unknown : Option (List ℕ) → Parts → Result Parts Stop
 unless_unknown None parts = Ok parts
-unless_unknown (Some table) parts = Err (refused (fault.At file.Queues table (codes "egress_pool") UnknownPool))
+unless_unknown (Some table) parts = Err (refused (unknown_pool_at table))
 
 -- the first reason stops
 infixl 10 ◌>>=◌
@@ -110,7 +108,7 @@ counts_of texts_before texts_after search_before search_after = record {
 
 -- the cause of each fault: a reason for the texts, or a count that rose
 abbrev pub HasCauseIn : (Stop → Type 0) → Counts → LoadFault → Type 0
-HasCauseIn P counts (load_fault.Refused f table key why) = P (refused (fault.At f table key why))
+HasCauseIn P counts (load_fault.Refused place) = P (refused place)
 HasCauseIn P counts load_fault.Limit = P too_long
 HasCauseIn P counts load_fault.ReadFault = Rose counts.texts_before counts.texts_after
 HasCauseIn P counts load_fault.SearchFault = Rose counts.search_before counts.search_after
@@ -118,6 +116,6 @@ HasCauseIn P counts load_fault.Memory = ⊤
 
 -- the fault of loading that a fault of a policy text comes to
 abbrev pub load_fault_of : PolicyFault → LoadFault
-load_fault_of (fault.At file table key why) = load_fault.Refused file table key why
+load_fault_of (fault.At place) = load_fault.Refused place
 load_fault_of fault.Search = load_fault.SearchFault
 load_fault_of fault.Memory = load_fault.Memory

@@ -2,7 +2,7 @@
 use Rattle.std.specs.Prelude.{◌≡◌, ℕ, nat_lt, List, [], length, Option, Some, None, Result, Ok, Err, IfSome, if◌then◌else◌}
 use Rattle.kumo_outside.specs.Limits.{text_limit}
 use Rattle.policy_core.specs.declared.fault.PolicyFile.TheVariants as file
-use Rattle.policy_core.specs.declared.fault.PolicyFault.{PolicyFault}
+use Rattle.policy_core.specs.declared.fault.PolicyPlace.{PolicyPlace}
 use Rattle.policy_core.specs.declared.mx.MxRow.{MxRow}
 use Rattle.policy_toml.specs.Reports.{reported}
 use Rattle.sources_policy.specs.SourcesFile.{SourcesFile, sources_file}
@@ -13,14 +13,14 @@ use Rattle.mx_table.specs.MxText.{rows_in, reported as reported_line}
 -- why a text gives nothing: it has more bytes than are read, or it is refused
 pub data Stop : Type 0 where
   too_long : Stop
-  refused : PolicyFault → Stop
+  refused : PolicyPlace → Stop
 
 -- what a text gives that is not too long, by its definition and the report of its faults
-abbrev pub unless_refused : {A F : Type 0} → (F → PolicyFault) → Result A F → Result A Stop
+abbrev pub unless_refused : {A F : Type 0} → (F → PolicyPlace) → Result A F → Result A Stop
 unless_refused report (Ok a) = Ok a
 unless_refused report (Err f) = Err (refused (report f))
 
-unfoldable pub read_by : {A F : Type 0} → (F → PolicyFault) → (List ℕ → Result A F) → List ℕ → Result A Stop
+unfoldable pub read_by : {A F : Type 0} → (F → PolicyPlace) → (List ℕ → Result A F) → List ℕ → Result A Stop
 read_by report read text = if nat_lt text_limit (length text) then Err too_long else unless_refused report (read text)
 
 abbrev pub sources_given : List ℕ → Result SourcesFile Stop

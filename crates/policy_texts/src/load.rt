@@ -10,11 +10,9 @@ ghost use Rattle.policy_texts.specs.inside.Stages.{StopsAtPools, no_counts};
 
 use crate::stages::{take_mx, take_queues, take_shaping, take_sources};
 use command_words::PolicyNames;
-use kumo_base::{LAST_MOMENT, Text};
+use kumo_base::LAST_MOMENT;
 use kumo_outside::{Search, Texts};
-use policy_core::{
-    Ignored, MxTable, Policy, PolicyFault, PolicyFile, Queues, Shaping, Sources, Why,
-};
+use policy_core::{Ignored, MxTable, Policy, PolicyFault, PolicyPlace, Queues, Shaping, Sources};
 use std::alloc::{AllocError, AllocFailed, Global};
 
 /// A policy, and the keys of its texts that have no effect: those of sources, then of queues, then of shaping.
@@ -27,13 +25,8 @@ pub struct PolicyTexts {
 /// Why policy texts give no policy.
 #[derive(Drop)]
 pub enum LoadFault {
-    /// This place of a text is the first that is at fault. Table and key are `-` where there is none.
-    Refused {
-        file: PolicyFile,
-        table: Text,
-        key: Text,
-        why: Why,
-    },
+    /// This place of a text is the first that is at fault.
+    Refused(PolicyPlace),
     /// A text has more bytes than are read.
     Limit,
     /// A text could not be read.
@@ -71,17 +64,7 @@ impl From<PolicyFault> for LoadFault {
 
     fn from(refusal: PolicyFault) -> LoadFault {
         match refusal {
-            PolicyFault::At {
-                file,
-                table,
-                key,
-                why,
-            } => LoadFault::Refused {
-                file,
-                table,
-                key,
-                why,
-            },
+            PolicyFault::At(place) => LoadFault::Refused(place),
             PolicyFault::Search => LoadFault::SearchFault,
             PolicyFault::Memory => LoadFault::Memory,
         }

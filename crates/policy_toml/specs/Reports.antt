@@ -4,23 +4,23 @@ use Rattle.toml.specs.Data.{Members}
 use Rattle.policy_core.specs.declared.fault.PolicyFile.{PolicyFile}
 use Rattle.policy_core.specs.declared.fault.PolicyFault.{PolicyFault}
 use Rattle.policy_core.specs.declared.fault.PolicyFault.TheVariants as policy_fault
+use Rattle.policy_core.specs.declared.fault.PolicyPlace.{PolicyPlace}
 use Rattle.policy_core.specs.declared.fault.Why.TheVariants.{NotToml}
 use Rattle.policy_toml.specs.declared.fault.Fault.{Fault}
 use Rattle.policy_toml.specs.Places.{fault, first_of, whole_table, named_with}
 
 -- a fault as it is reported
-abbrev pub reported : PolicyFile → Fault → PolicyFault
-reported file f = policy_fault.At file (named_with f.table f.number) f.key f.why
+abbrev pub reported : PolicyFile → Fault → PolicyPlace
+reported file f = record { file = file; table = named_with f.table f.number; key = f.key; why = f.why }
 
 abbrev pub IsReport : PolicyFile → Fault → PolicyFault → Type 0
-IsReport file f (policy_fault.At g table key why) = policy_fault.At g table key why ≡ reported file f
+IsReport file f (policy_fault.At place) = place ≡ reported file f
 IsReport file f policy_fault.Memory = ⊤
 IsReport file f policy_fault.Search = ⊥
 
 -- the refusal of a text that is no document
 abbrev pub IsUnopened : PolicyFile → PolicyFault → Option Members → Type 0
-IsUnopened file (policy_fault.At g table key why) document =
-    (document ≡ None) × (policy_fault.At g table key why ≡ reported file (fault [] whole_table NotToml))
+IsUnopened file (policy_fault.At place) document = (document ≡ None) × (place ≡ reported file (fault [] whole_table NotToml))
 IsUnopened file policy_fault.Memory document = ⊤
 IsUnopened file policy_fault.Search document = ⊥
 
@@ -36,6 +36,6 @@ reading faults give (Some ms) = unless_fault (first_of None (faults ms)) (give m
 
 -- a refusal other than for memory is the one that is reported. No search engine fails where none is asked
 abbrev pub IsRefusal : {A : Type 0} → PolicyFile → PolicyFault → Result A Fault → Type 0
-IsRefusal file (policy_fault.At f table key why) read = (found : Fault) × (read ≡ Err found) × (policy_fault.At f table key why ≡ reported file found)
+IsRefusal file (policy_fault.At place) read = (found : Fault) × (read ≡ Err found) × (place ≡ reported file found)
 IsRefusal file policy_fault.Memory read = ⊤
 IsRefusal file policy_fault.Search read = ⊥

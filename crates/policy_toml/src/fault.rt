@@ -10,7 +10,7 @@ ghost use Rattle.toml.specs.View.{table_view};
 use crate::document::{entry, is_table};
 use itoa::Buffer;
 use kumo_base::{Memory, Text};
-use policy_core::{PolicyFault, PolicyFile, Why};
+use policy_core::{PolicyFault, PolicyFile, PolicyPlace, Why};
 use std::alloc::Global;
 use std::marker::Model;
 use toml::Table;
@@ -135,12 +135,12 @@ impl Fault {
             ..
         } = self;
         match named_with(alloc, table, number) {
-            Ok(table) => PolicyFault::At {
+            Ok(table) => PolicyFault::At(PolicyPlace {
                 file,
                 table,
                 key,
                 why,
-            },
+            }),
             Err(Memory) => PolicyFault::Memory,
         }
     }

@@ -10,7 +10,7 @@ use Rattle.policy_toml.specs.Reports.{IsRefusal}
 -- a refusal of the text is the one that is reported; nothing is said of a text for which there was no memory, or on which
 -- the search engine failed
 abbrev pub IsShapingRefusal : {A : Type 0} → PolicyFault → Result A Fault → Type 0
-IsShapingRefusal (policy_fault.At f table key why) read = IsRefusal file.Shaping (policy_fault.At f table key why) read
+IsShapingRefusal (policy_fault.At place) read = IsRefusal file.Shaping (policy_fault.At place) read
 IsShapingRefusal policy_fault.Memory read = ⊤
 IsShapingRefusal policy_fault.Search read = ⊤
 

@@ -11,7 +11,7 @@ use Rattle.kumo_run.specs.Deeds.{nothing_done}
 use Rattle.kumo_run.specs.Causes.{Refuses, policy}
 
 abbrev pub refusal_of_load : LoadFault → Refusal
-refusal_of_load (load_fault.Refused f table key why) = refusal.Policy f table key why
+refusal_of_load (load_fault.Refused place) = refusal.Policy place
 refusal_of_load load_fault.Limit = refusal.Limit
 refusal_of_load load_fault.ReadFault = refusal.ReadFault
 refusal_of_load load_fault.SearchFault = refusal.SearchFault
