@@ -26,31 +26,35 @@ pub enum PolicyFile {
     Orders,
 }
 
-/// Why a place of a policy text is refused.
-#[derive(Clone, Copy, Debug, PartialEq, Eq)]
+/// Why a place of a policy text is refused. Of several at one place the first in the order of the variants is reported. That
+/// order serves all files: a shaping file lists BadDuration behind BadAction, but at its `duration` no other word but BadType
+/// stands.
+#[derive(Clone, Copy, Debug, PartialEq, Eq, PartialOrd, Ord)]
 pub enum Why {
     /// The text is no TOML document.
     NotToml,
-    /// The line is no UTF-8.
-    NotText,
-    /// The line is no JSON object in UTF-8.
-    NotJson,
     /// A value of another kind than the key wants, or a table where none may be.
     BadType,
     /// A name that nothing of its kind may have.
     BadName,
     /// A weight that is no whole number in its range.
     BadWeight,
+    /// More of a kind than there may be.
+    TooMany,
     /// A source that is named and has no table.
     UnknownSource,
-    /// A pool that is named and is not there.
-    UnknownPool,
     /// A text or number that is no duration.
     BadDuration,
     /// An interval of no length.
     Zero,
     /// What may stand once stands twice.
     Twice,
+    /// The line is no UTF-8.
+    NotText,
+    /// The line is no JSON object in UTF-8.
+    NotJson,
+    /// A pool that is named and is not there.
+    UnknownPool,
     /// A number that the option may not have.
     BadOption,
     /// A text that is no throttle.
@@ -73,8 +77,15 @@ pub enum Why {
     BadValue,
     /// A moment before that of an earlier line.
     Unsorted,
-    /// More of a kind than there may be.
-    TooMany,
+}
+
+/// The place of a fault of a policy text, and its word. Each of the texts is `-` where there is no table or no key.
+#[derive(Drop)]
+pub struct PolicyPlace {
+    pub file: PolicyFile,
+    pub table: Text,
+    pub key: Text,
+    pub why: Why,
 }
 
 /// The place of a fault of a policy text, and its word. Each of the texts is `-` where there is no table or no key.

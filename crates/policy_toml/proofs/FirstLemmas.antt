@@ -6,8 +6,9 @@ use Rattle.std.specs.Cmp.{IsTotalOrder}
 use Rattle.std.specs.Ordering.{is_lt, is_gt, ordering_reverse}
 use Rattle.std.proofs.lemmas.Cmp.{upto, tied_itself, then_total, on_total, nat_cmp_total, nat_list_cmp_total}
 use Rattle.std.proofs.lemmas.Option.{none-some, same_Some}
+use Rattle.policy_core.specs.contracts.fault.WhyOrd.TheImpl.Laws.{total-law}
 use Rattle.policy_toml.specs.declared.fault.Fault.{Fault}
-use Rattle.policy_toml.specs.Places.{fault_cmp, rank_of, earlier, first_of}
+use Rattle.policy_toml.specs.Places.{fault_cmp, earlier, first_of}
 
 -- places are ordered
 pub fault_cmp_total : IsTotalOrder fault_cmp
@@ -15,7 +16,7 @@ fault_cmp_total =
     then_total (on_total (λ (f : Fault). f.table) nat_list_cmp_total)
     (then_total (on_total (λ (f : Fault). f.number) nat_cmp_total)
     (then_total (on_total (λ (f : Fault). f.key) nat_list_cmp_total)
-    (then_total (on_total (λ (f : Fault). f.item) nat_cmp_total) (on_total (λ (f : Fault). rank_of f.why) nat_cmp_total))))
+    (then_total (on_total (λ (f : Fault). f.item) nat_cmp_total) (on_total (λ (f : Fault). f.why) total-law))))
 
 -- the first fault does not come after the second
 abbrev NotAfter : Fault → Fault → Type 0

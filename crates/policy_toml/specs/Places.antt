@@ -8,7 +8,7 @@ use Rattle.std.specs.Cmp.Lexicographic.{slice_cmp}
 use Rattle.policy_core.specs.declared.fault.PolicyFile.{PolicyFile}
 use Rattle.policy_core.specs.declared.fault.Ignored.{Ignored}
 use Rattle.policy_core.specs.declared.fault.Why.{Why}
-use Rattle.policy_core.specs.declared.fault.Why.TheVariants as why
+use Rattle.policy_core.specs.contracts.fault.WhyOrd.TheImpl.{cmp-value}
 use Rattle.policy_toml.specs.declared.fault.Fault.{Fault}
 
 -- a table within a table, which is the empty text at the top level
@@ -26,39 +26,16 @@ fault table key why = fault_in table 0 key 0 why
 abbrev pub whole_table : List ℕ
 whole_table = codes "-"
 
--- the order of the refusals that one key may meet
--- it serves all files: a shaping file lists BadDuration behind BadAction, but at its `duration` no other word but BadType stands
-abbrev pub rank_of : Why → ℕ
-rank_of why.NotToml = 0
-rank_of why.BadType = 1
-rank_of why.BadName = 2
-rank_of why.BadWeight = 3
-rank_of why.TooMany = 4
-rank_of why.UnknownSource = 5
-rank_of why.BadDuration = 6
-rank_of why.Zero = 7
-rank_of why.Twice = 8
-rank_of why.NotText = 9
-rank_of why.NotJson = 10
-rank_of why.UnknownPool = 11
-rank_of why.BadOption = 12
-rank_of why.BadThrottle = 13
-rank_of why.BadPattern = 14
-rank_of why.BadTrigger = 15
-rank_of why.BadAction = 16
-rank_of why.BadMatch = 17
-rank_of why.NoHost = 18
-rank_of why.Missing = 19
-rank_of why.BadKind = 20
-rank_of why.BadValue = 21
-rank_of why.Unsorted = 22
+-- the order of the refusals that one place may meet is that of the variants of Why
+abbrev pub why_cmp : Why → Why → Ordering
+why_cmp = cmp-value.it
 
 abbrev pub fault_cmp : Fault → Fault → Ordering
 fault_cmp a b =
     ordering_then (slice_cmp nat_cmp a.table b.table)
     (ordering_then (nat_cmp a.number b.number)
     (ordering_then (slice_cmp nat_cmp a.key b.key)
-    (ordering_then (nat_cmp a.item b.item) (nat_cmp (rank_of a.why) (rank_of b.why)))))
+    (ordering_then (nat_cmp a.item b.item) (why_cmp a.why b.why))))
 
 -- the fault that comes first, of one that may be there and another
 abbrev pub earlier : Option Fault → Fault → Fault

@@ -5,7 +5,7 @@
 //! data, and else `reported` gives the fault the form that is printed. `Memory` leaves the kept fault as it was.
 ghost use Rattle.std.specs.Prelude.{◌≡◌, ◌∷◌, ◌==◌, ℕ, List, [], Option, Some, None, IfOk, OnOk, OnErr};
 ghost use Rattle.std.specs.Ordering.{is_lt};
-ghost use Rattle.policy_toml.specs.Places.{first_of, fault, fault_cmp, rank_of, fault_in, named, named_with, numbered};
+ghost use Rattle.policy_toml.specs.Places.{first_of, fault, fault_cmp, fault_in, named, named_with, numbered};
 ghost use Rattle.policy_toml.specs.Reports.{IsReportedFault};
 ghost use Rattle.policy_toml.specs.Walks.{faults_unless_table};
 ghost use Rattle.toml.specs.Data.{get_member};
@@ -191,39 +191,8 @@ fn is_before(table: &str, number: u64, key: &str, item: u64, why: Why, other: &F
     let by_number = number.cmp(&other.number);
     let by_key = key.cmp(other.key.as_str());
     let by_item = item.cmp(&other.item);
-    let by_rank = rank(why).cmp(&rank(other.why));
+    let by_why = why.cmp(&other.why);
     by_table
-        .then(by_number.then(by_key.then(by_item.then(by_rank))))
+        .then(by_number.then(by_key.then(by_item.then(by_why))))
         .is_lt()
-}
-
-/// The place of a refusal in the order in which those of one key are tried.
-fn rank(why: Why) -> u8
-    ensures { result ≡ rank_of why }
-{
-    match why {
-        Why::NotToml => 0,
-        Why::BadType => 1,
-        Why::BadName => 2,
-        Why::BadWeight => 3,
-        Why::TooMany => 4,
-        Why::UnknownSource => 5,
-        Why::BadDuration => 6,
-        Why::Zero => 7,
-        Why::Twice => 8,
-        Why::NotText => 9,
-        Why::NotJson => 10,
-        Why::UnknownPool => 11,
-        Why::BadOption => 12,
-        Why::BadThrottle => 13,
-        Why::BadPattern => 14,
-        Why::BadTrigger => 15,
-        Why::BadAction => 16,
-        Why::BadMatch => 17,
-        Why::NoHost => 18,
-        Why::Missing => 19,
-        Why::BadKind => 20,
-        Why::BadValue => 21,
-        Why::Unsorted => 22,
-    }
 }

@@ -1,5 +1,5 @@
 //! Lists in byte order of names.
-ghost use Rattle.std.specs.Prelude.{◌≡◌, ◌≤◌, length, OnOk};
+ghost use Rattle.std.specs.Prelude.{◌≡◌, ◌≤◌, length, OnOk, OnErr};
 ghost use Rattle.policy_toml.specs.Order.{with_named, place_by_name};
 
 use kumo_base::Memory;
@@ -52,7 +52,8 @@ impl Named for DomainShape {
 /// After `Memory` the list is as it was.
 #[tactic(auto, unfolding(crate::specs::Order::with_named))]
 pub fn put_by_name<T: Named + Drop>(items: &mut Vec<T>, item: T) -> Result<(), Memory>
-    ensures { OnOk result (items.new.items ≡ with_named T.name_of item items.old.items) }
+    ensures ok { OnOk result (items.new.items ≡ with_named T.name_of item items.old.items) }
+    ensures err { OnErr result (items.new.items ≡ items.old.items) }
 {
     let place = place_by_name(items.as_slice(), item.name());
     items.insert(place, item)?;

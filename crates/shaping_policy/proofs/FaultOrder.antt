@@ -1,52 +1,26 @@
 -- The order of faults is total, and faults that it does not tell apart are the same.
-use Rattle.std.proofs.Common.{◌≡◌, ◌∙◌, ℕ, List, [], ◌∷◌, get_or, sym, ap, refl, Bool, false, Option, Some, None, Ordering, Less, Equal, Greater, is_lt}
+use Rattle.std.proofs.Common.{◌≡◌, ◌∙◌, ℕ, List, [], ◌∷◌, ap, refl, rules, Bool, false, Option, Some, None, Ordering, Less, Equal, Greater, is_lt}
 use Rattle.std.specs.Cmp.{IsTotalOrder, IsStrictWeakOrder}
-use Rattle.std.specs.Ordering.{ordering_then, ordering_reverse}
+use Rattle.std.specs.Ordering.{is_eq, ordering_then, ordering_reverse}
+use Rattle.std.proofs.lemmas.Cmp.{then_total, on_total, nat_cmp_total, nat_list_cmp_total}
 use Rattle.std.proofs.lemmas.List.Sorted.{ranks_by}
 use Rattle.std.proofs.lemmas.Map.Lookups.{exact_unsigned, exact_bytes}
 use Rattle.policy_core.specs.declared.fault.Why.{Why}
-use Rattle.policy_core.specs.declared.fault.Why.TheVariants.{NotToml, BadType, BadName, BadWeight, TooMany, UnknownSource, BadDuration, Zero, Twice, NotText, NotJson, UnknownPool, BadOption, BadThrottle, BadPattern, BadTrigger, BadAction, BadMatch, NoHost, Missing, BadKind, BadValue, Unsorted}
+use Rattle.policy_core.specs.contracts.fault.Why.{the_type}
+use Rattle.policy_core.specs.contracts.fault.WhyOrd.TheImpl.Laws.{matches_eq-law}
 use Rattle.policy_toml.specs.declared.fault.Fault.{Fault}
-use Rattle.policy_toml.specs.Places.{fault_in, rank_of, fault_cmp, first_of, earlier}
+use Rattle.policy_toml.specs.Places.{fault_in, why_cmp, fault_cmp, first_of, earlier}
 use Rattle.policy_toml.proofs.FirstLemmas.{fault_cmp_total}
 use Rattle.shaping_policy.proofs.Firsts.{IsExact, first_by}
+use denote.Enum.Bare.{same_true}
 
 -- whether a fault comes before another
 unfoldable pub comes_before : Fault → Fault → Bool
 comes_before a b = is_lt (fault_cmp a b)
 
--- each rank is that of one refusal
-refusals : List Why
-refusals = NotToml ∷ BadType ∷ BadName ∷ BadWeight ∷ TooMany ∷ UnknownSource ∷ BadDuration ∷ Zero ∷ Twice ∷ NotText ∷ NotJson ∷ UnknownPool ∷ BadOption ∷ BadThrottle ∷ BadPattern ∷ BadTrigger ∷ BadAction ∷ BadMatch ∷ NoHost ∷ Missing ∷ BadKind ∷ BadValue ∷ Unsorted ∷ []
-
-at_rank : (w : Why) → get_or refusals (rank_of w) NotToml ≡ w
-unfolding refusals
-at_rank NotToml = refl
-at_rank BadType = refl
-at_rank BadName = refl
-at_rank BadWeight = refl
-at_rank TooMany = refl
-at_rank UnknownSource = refl
-at_rank BadDuration = refl
-at_rank Zero = refl
-at_rank Twice = refl
-at_rank NotText = refl
-at_rank NotJson = refl
-at_rank UnknownPool = refl
-at_rank BadOption = refl
-at_rank BadThrottle = refl
-at_rank BadPattern = refl
-at_rank BadTrigger = refl
-at_rank BadAction = refl
-at_rank BadMatch = refl
-at_rank NoHost = refl
-at_rank Missing = refl
-at_rank BadKind = refl
-at_rank BadValue = refl
-at_rank Unsorted = refl
-
-same_rank : (v w : Why) → rank_of v ≡ rank_of w → v ≡ w
-same_rank v w e = sym (at_rank v) ∙ ap (λ n. get_or refusals n NotToml) e ∙ at_rank w
+-- refusals that the order does not tell apart are the same
+same_why : (v w : Why) → why_cmp v w ≡ Equal → v ≡ w
+same_why v w e = same_true the_type (search rules) v w (matches_eq-law v w ∙ ap is_eq e)
 
 then_equal : (o p : Ordering) → ordering_then o p ≡ Equal → (o ≡ Equal) × (p ≡ Equal)
 then_equal Less p e = absurd cc
@@ -64,7 +38,7 @@ fault_cmp-equal a b e =
     let key = then_equal _ _ number.1 in
     let item = then_equal _ _ key.1 in
     same_parts _ _ _ _ _ _ _ _ _ _ (exact_bytes _ _ table.0) (exact_unsigned _ _ number.0) (exact_bytes _ _ key.0) (exact_unsigned _ _ item.0)
-    (same_rank _ _ (exact_unsigned _ _ item.1))
+    (same_why _ _ item.1)
 
 pub comes_before_order : IsStrictWeakOrder comes_before
 unfolding comes_before
