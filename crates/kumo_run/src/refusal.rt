@@ -94,8 +94,10 @@ fn put_line<O: Sink>(refusal: &Refusal, out: &mut O) -> Result<(), Failed>
 
 /// Puts the line of a refused policy text.
 fn put_policy_line<O: Sink>(place: &PolicyPlace, out: &mut O) -> Result<(), Failed>
-    ensures whole { OnOk result ((O.seen out.new).told ≡ extended (O.seen out.old).told (refusal_line (Refusal.Policy place.now))) }
-    ensures part { OnErr result (TakesFront (O.seen out.old).told (O.seen out.new).told (refusal_line (Refusal.Policy place.now))) }
+    ensures whole { OnOk result ((O.seen out.new).told ≡ extended (O.seen out.old).told
+        (refusal_line (Refusal.Policy place.now))) }
+    ensures part { OnErr result (TakesFront (O.seen out.old).told (O.seen out.new).told
+        (refusal_line (Refusal.Policy place.now))) }
     ensures cause { HasCause (O.seen out.old).faults (O.seen out.new).faults result }
 {
     put_three(out, "error: policy ", place.file.name(), " ")?;

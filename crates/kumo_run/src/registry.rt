@@ -90,7 +90,8 @@ impl Registry {
     pub fn end_delivered(&mut self, conn: u64, id: u128, reply: Reply)
         requires follows { MayFollow self.old.history (entry (Event.Ended conn id (Outcome.Delivered reply) Next.Settled)) }
         requires room { HasRoom self.old }
-        ensures history { self.new.history ≡ self.old.history ++ entry (Event.Ended conn id (Outcome.Delivered reply) Next.Settled) ∷ [] }
+        ensures history { self.new.history ≡ self.old.history
+            ++ entry (Event.Ended conn id (Outcome.Delivered reply) Next.Settled) ∷ [] }
         ensures capacity { self.new.capacity ≡ self.old.capacity }
     {
         self.append(Event::Ended {

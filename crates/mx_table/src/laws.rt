@@ -6,5 +6,6 @@ ghost use Rattle.mx_table.specs.MxText.{Joins};
 
 /// Two tables that join the same rows are equal, so that a text has one table at most.
 pub fn one_table_joins_rows()
-    ensures { (rows table other : List MxRow) → IsTrue (is_mx_table table) → IsTrue (is_mx_table other) → Joins table rows → Joins other rows → table ≡ other }
+    ensures { (rows table other : List MxRow) → IsTrue (is_mx_table table) → IsTrue (is_mx_table other) → Joins table rows
+        → Joins other rows → table ≡ other }
 {}

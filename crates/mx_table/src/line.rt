@@ -68,7 +68,8 @@ fn row_of_words(alloc: Global, words: &[&[u8]]) -> Result<Option<Row>, RowFault>
 fn row_named(alloc: Global, domain: &[u8], hosts: &[&[u8]]) -> Result<Row, RowFault>
     requires { 0 < length hosts.now }
     ensures ok { IfOk result (λ row. row_named (name_of domain.now) (map (λ word. name_of word.now) hosts.now) ≡ Ok row) }
-    ensures err { IfErr result (λ fault. IsCauseOf fault (Some (row_named (name_of domain.now) (map (λ word. name_of word.now) hosts.now)))) }
+    ensures err { IfErr result (λ fault. IsCauseOf fault (Some
+        (row_named (name_of domain.now) (map (λ word. name_of word.now) hosts.now)))) }
 {
     let domain = name_of(alloc, domain)?;
     let hosts = names_of(alloc, hosts)?;

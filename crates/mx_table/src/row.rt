@@ -66,7 +66,8 @@ impl Row {
     pub fn in_table(self, alloc: Global) -> Result<MxRow, Memory>
         ensures domain { IfOk result (λ done. done.domain ≡ self.domain) }
         ensures order { IfOk result (λ done. IsTrue (has_hosts done.hosts)) }
-        ensures hosts { IfOk result (λ done. (host : List ℕ) → list_any (bytes_eq host) done.hosts ≡ list_any (bytes_eq host) self.hosts) }
+        ensures hosts { IfOk result (λ done. (host : List ℕ) → list_any (bytes_eq host) done.hosts
+            ≡ list_any (bytes_eq host) self.hosts) }
     {
         let mut hosts = self.hosts;
         hosts.sort_unstable();

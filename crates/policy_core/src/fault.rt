@@ -88,15 +88,6 @@ pub struct PolicyPlace {
     pub why: Why,
 }
 
-/// The place of a fault of a policy text, and its word. Each of the texts is `-` where there is no table or no key.
-#[derive(Drop)]
-pub struct PolicyPlace {
-    pub file: PolicyFile,
-    pub table: Text,
-    pub key: Text,
-    pub why: Why,
-}
-
 /// Why a policy text gives no value.
 #[derive(Drop)]
 pub enum PolicyFault {

@@ -39,7 +39,8 @@ impl Model for Policy {
 
     ghost view = { λ p. record { sources = p.sources; queues = p.queues; shaping = p.shaping; mx = p.mx; stops = p.stops } };
 
-    ghost invariant = { λ p. IsPolicy (record { sources = p.sources; queues = p.queues; shaping = p.shaping; mx = p.mx; stops = p.stops }) };
+    ghost invariant = { λ p. IsPolicy
+        (record { sources = p.sources; queues = p.queues; shaping = p.shaping; mx = p.mx; stops = p.stops }) };
 }
 
 impl Policy {
@@ -59,7 +60,8 @@ impl Policy {
         requires entrants { IsTrue (are_entrants_sources sources) }
         requires source_names { IsTrue (are_sources_named sources) }
         requires hosts { IsTrue (are_hosts_named mx) }
-        ensures ok { IfOk result (λ policy. policy ≡ record { sources = sources; queues = queues; shaping = shaping; mx = mx; stops = stops.items }) }
+        ensures ok { IfOk result (λ policy. policy
+            ≡ record { sources = sources; queues = queues; shaping = shaping; mx = mx; stops = stops.items }) }
         ensures known { IfOk result (λ policy. unknown_pool sources queues ≡ None) }
         ensures err { IfErr result (λ fault. IsUnknownPool fault (unknown_pool sources queues)) }
     {

@@ -147,7 +147,8 @@ impl<'s> PoolCheck<'s> {
         domain: &str,
         tenants: &[TenantQueues],
     ) -> Result<(), Memory>
-        ensures { OnOk result (self.new ≡ with_layers self.old (flat_map (layers_of_tenant (below (codes "queue") domain.now)) tenants.now)) }
+        ensures { OnOk result (self.new ≡ with_layers self.old
+            (flat_map (layers_of_tenant (below (codes "queue") domain.now)) tenants.now)) }
     {
         for tenant in tenants {
             self.add_tenant(alloc, domain, tenant)?;

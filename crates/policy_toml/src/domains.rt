@@ -21,8 +21,10 @@ pub fn note_domain(
     place: &str,
     key: &str,
 ) -> Result<(), Memory>
-    ensures faults { OnOk result (faults.new ≡ first_of faults.old (faults_if_met true (contains_text met.old) place.now key.now)) }
-    ensures met { OnOk result ((name : List ℕ) → contains_text met.new name ≡ met_with true (contains_text met.old) key.now name) }
+    ensures faults { OnOk result (faults.new ≡ first_of faults.old
+        (faults_if_met true (contains_text met.old) place.now key.now)) }
+    ensures met { OnOk result ((name : List ℕ) → contains_text met.new name
+        ≡ met_with true (contains_text met.old) key.now name) }
 {
     if !met.insert(key.to_ascii_lowercase(alloc)?)? {
         let table = joined(alloc, place, key)?;

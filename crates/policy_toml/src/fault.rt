@@ -105,7 +105,8 @@ impl FirstFault {
         document: &Table,
         key: &str,
     ) -> Result<(), Memory>
-        ensures ok { OnOk result (self.new ≡ first_of self.old (faults_unless_table [] key.now (get_member key.now (table_view document.now)))) }
+        ensures ok { OnOk result (self.new ≡ first_of self.old
+            (faults_unless_table [] key.now (get_member key.now (table_view document.now)))) }
         ensures err { OnErr result (self.new ≡ self.old) }
     {
         if let Some(value) = entry(document, key) {

@@ -8,12 +8,14 @@ ghost use Rattle.policy_toml.specs.declared.fault.TheConstants.{WHOLE_TABLE};
 
 /// The first of faults is one of them.
 pub fn first_is_one_of_them()
-    ensures { (faults : List Fault) (first : Fault) → first_of None faults ≡ Some first → (k : ℕ) × (slice_get faults k ≡ Some first) }
+    ensures { (faults : List Fault) (first : Fault) → first_of None faults ≡ Some first → (k : ℕ)
+        × (slice_get faults k ≡ Some first) }
 {}
 
 /// None of them comes before it.
 pub fn none_comes_before_the_first()
-    ensures { (faults : List Fault) (first other : Fault) (k : ℕ) → first_of None faults ≡ Some first → slice_get faults k ≡ Some other → is_lt (fault_cmp other first) ≡ false }
+    ensures { (faults : List Fault) (first other : Fault) (k : ℕ) → first_of None faults ≡ Some first → slice_get faults k
+        ≡ Some other → is_lt (fault_cmp other first) ≡ false }
 {}
 
 /// The limits that the code has are those that the definitions state.

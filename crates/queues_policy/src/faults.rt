@@ -92,7 +92,8 @@ fn note_plain_keys(
     place: &str,
     table: &Table,
 ) -> Result<(), Memory>
-    ensures { OnOk result (faults.new ≡ first_of faults.old (over_members (faults_at_plain_key place.now) (table_view table.now))) }
+    ensures { OnOk result (faults.new ≡ first_of faults.old
+        (over_members (faults_at_plain_key place.now) (table_view table.now))) }
 {
     for (key, value) in table.iter() {
         note_plain_key(alloc, faults, place, key.as_str(), value)?;
@@ -209,7 +210,8 @@ fn note_domain_keys(
     place: &str,
     domain: &Table,
 ) -> Result<(), Memory>
-    ensures { OnOk result (faults.new ≡ first_of faults.old (over_members (faults_at_domain_key place.now) (table_view domain.now))) }
+    ensures { OnOk result (faults.new ≡ first_of faults.old
+        (over_members (faults_at_domain_key place.now) (table_view domain.now))) }
 {
     for (key, value) in domain.iter() {
         note_domain_key(alloc, faults, place, key.as_str(), value)?;
@@ -246,7 +248,8 @@ fn note_tenant_queues(
     tenant: &str,
     table: &Table,
 ) -> Result<(), Memory>
-    ensures { OnOk result (faults.new ≡ first_of faults.old (faults_in_tenant_queues place.now tenant.now (table_view table.now))) }
+    ensures { OnOk result (faults.new ≡ first_of faults.old
+        (faults_in_tenant_queues place.now tenant.now (table_view table.now))) }
 {
     note_name(alloc, faults, place, is_tenant_of_some_name(tenant))?;
     note_tenant_keys(alloc, faults, place, table)?;
@@ -261,7 +264,8 @@ fn note_tenant_keys(
     place: &str,
     tenant: &Table,
 ) -> Result<(), Memory>
-    ensures { OnOk result (faults.new ≡ first_of faults.old (over_members (faults_at_tenant_key place.now) (table_view tenant.now))) }
+    ensures { OnOk result (faults.new ≡ first_of faults.old
+        (over_members (faults_at_tenant_key place.now) (table_view tenant.now))) }
 {
     for (key, value) in tenant.iter() {
         note_tenant_key(alloc, faults, place, key.as_str(), value)?;
@@ -308,7 +312,8 @@ fn note_campaign(
 /// The domains that are equal in lower case to one before them.
 #[tactic(auto, using(policy_toml::proofs::DomainLemmas::twice_step))]
 fn note_twice(alloc: Global, faults: &mut FirstFault, queues: &Table) -> Result<(), Memory>
-    ensures { OnOk result (faults.new ≡ first_of faults.old (faults_of_twice is_domain_table (codes "queue") none_met (table_view queues.now))) }
+    ensures { OnOk result (faults.new ≡ first_of faults.old
+        (faults_of_twice is_domain_table (codes "queue") none_met (table_view queues.now))) }
 {
     let mut met: BTreeSet<String> = BTreeSet::new(alloc);
     for (key, value) in queues.iter() {
@@ -327,8 +332,10 @@ fn note_if_met(
     key: &str,
     value: &Value,
 ) -> Result<(), Memory>
-    ensures faults { OnOk result (faults.new ≡ first_of faults.old (faults_if_met (is_domain_table key.now (view value.now)) (contains_text met.old) (codes "queue") key.now)) }
-    ensures met { OnOk result ((name : List ℕ) → contains_text met.new name ≡ met_with (is_domain_table key.now (view value.now)) (contains_text met.old) key.now name) }
+    ensures faults { OnOk result (faults.new ≡ first_of faults.old
+        (faults_if_met (is_domain_table key.now (view value.now)) (contains_text met.old) (codes "queue") key.now)) }
+    ensures met { OnOk result ((name : List ℕ) → contains_text met.new name
+        ≡ met_with (is_domain_table key.now (view value.now)) (contains_text met.old) key.now name) }
 {
     if is_domain_table(key, value) {
         note_domain(alloc, faults, met, "queue", key)?;

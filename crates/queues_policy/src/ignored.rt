@@ -76,7 +76,8 @@ fn add_plain(
     place: &str,
     table: &Table,
 ) -> Result<(), Memory>
-    ensures { OnOk result (ignored.new.items ≡ ignored.old.items ++ over_members (ignored_at_plain_key place.now) (table_view table.now)) }
+    ensures { OnOk result (ignored.new.items ≡ ignored.old.items
+        ++ over_members (ignored_at_plain_key place.now) (table_view table.now)) }
 {
     for (key, _) in table.iter() {
         if !is_setting(key.as_str()) {
@@ -125,7 +126,8 @@ fn add_domain(
     place: &str,
     domain: &Table,
 ) -> Result<(), Memory>
-    ensures { OnOk result (ignored.new.items ≡ ignored.old.items ++ over_members (ignored_at_domain_key place.now) (table_view domain.now)) }
+    ensures { OnOk result (ignored.new.items ≡ ignored.old.items
+        ++ over_members (ignored_at_domain_key place.now) (table_view domain.now)) }
 {
     for (key, value) in domain.iter() {
         add_domain_key(alloc, ignored, place, key.as_str(), value)?;
@@ -163,7 +165,8 @@ fn add_tenant_queues(
     place: &str,
     tenant: &Table,
 ) -> Result<(), Memory>
-    ensures { OnOk result (ignored.new.items ≡ ignored.old.items ++ over_members (ignored_at_tenant_key place.now) (table_view tenant.now)) }
+    ensures { OnOk result (ignored.new.items ≡ ignored.old.items
+        ++ over_members (ignored_at_tenant_key place.now) (table_view tenant.now)) }
 {
     for (key, value) in tenant.iter() {
         add_tenant_key(alloc, ignored, place, key.as_str(), value)?;

@@ -28,7 +28,8 @@ pub(crate) fn queues_in(alloc: Global, document: &Table) -> Result<Queues, Memor
 
 /// The layer for all messages.
 fn base_of(alloc: Global, document: &Table) -> Result<Layer, Memory>
-    ensures { IfOk result (λ layer. layer ≡ layer_of (members_at (codes "default") (members_at (codes "queue") (table_view document.now)))) }
+    ensures { IfOk result (λ layer. layer ≡ layer_of (members_at (codes "default")
+        (members_at (codes "queue") (table_view document.now)))) }
 {
     let Some(queues) = table_at(document, "queue") else {
         return Ok(empty_layer());
@@ -41,7 +42,8 @@ fn base_of(alloc: Global, document: &Table) -> Result<Layer, Memory>
 
 /// The layers of tenants.
 fn all_tenants(alloc: Global, document: &Table) -> Result<Vec<NamedLayer>, Memory>
-    ensures { IfOk result (λ layers. layers.items ≡ over_members tenant_layer_at (members_at (codes "tenant") (table_view document.now))) }
+    ensures { IfOk result (λ layers. layers.items ≡ over_members tenant_layer_at
+        (members_at (codes "tenant") (table_view document.now))) }
 {
     let mut layers = Vec::new(alloc);
     if let Some(tenants) = table_at(document, "tenant") {

@@ -95,7 +95,8 @@ pub(crate) fn domains_of<'p>(
     site: &'p Site,
 ) -> Result<Vec<&'p str>, Memory>
     requires rollups { AreRollups shapes.now.rollups policy.now.shaping.domains }
-    requires at_site { map (λ shape. shape.now) shapes.now.at_site.items ≡ filter (λ d. is_at_site policy.now site.now d.domain) (firsts (λ d. d.domain) policy.now.shaping.domains) }
+    requires at_site { map (λ shape. shape.now) shapes.now.at_site.items
+        ≡ filter (λ d. is_at_site policy.now site.now d.domain) (firsts (λ d. d.domain) policy.now.shaping.domains) }
     ensures { IfOk result (λ domains. AreDomainsOf policy.now site.now (map (λ domain. domain.now) domains.items)) }
 {
     let mut domains = Vec::new(alloc);
@@ -114,7 +115,9 @@ fn add_of_rows<'p>(
     domains: &mut Vec<&'p str>,
 ) -> Result<(), Memory>
     requires { AreRollups rollups.now policy.now.shaping.domains }
-    ensures { OnOk result (map (λ domain. domain.now) domains.new.items ≡ map (λ domain. domain.now) domains.old.items ++ filter (is_at_site policy.now site.now) (map (λ row. row.domain) policy.now.mx)) }
+    ensures { OnOk result (map (λ domain. domain.now) domains.new.items
+        ≡ map (λ domain. domain.now) domains.old.items ++ filter (is_at_site policy.now site.now)
+        (map (λ row. row.domain) policy.now.mx)) }
 {
     for row in policy.mx.rows.as_slice() {
         let domain = row.domain.as_str();
@@ -127,7 +130,8 @@ fn add_of_rows<'p>(
 
 /// Adds the domains of shaping tables.
 fn add_of_shapes<'p>(shapes: &[&'p DomainShape], domains: &mut Vec<&'p str>) -> Result<(), Memory>
-    ensures { OnOk result (map (λ domain. domain.now) domains.new.items ≡ map (λ domain. domain.now) domains.old.items ++ map (λ d. d.domain) (map (λ shape. shape.now) shapes.now)) }
+    ensures { OnOk result (map (λ domain. domain.now) domains.new.items
+        ≡ map (λ domain. domain.now) domains.old.items ++ map (λ d. d.domain) (map (λ shape. shape.now) shapes.now)) }
 {
     for shape in shapes {
         domains.push(shape.domain.as_str())?;
@@ -144,7 +148,8 @@ fn add_own<'p>(
     domains: &mut Vec<&'p str>,
 ) -> Result<(), Memory>
     requires { AreRollups rollups.now policy.now.shaping.domains }
-    ensures { OnOk result (map (λ domain. domain.now) domains.new.items ≡ map (λ domain. domain.now) domains.old.items ++ own_domain policy.now site.now) }
+    ensures { OnOk result (map (λ domain. domain.now) domains.new.items
+        ≡ map (λ domain. domain.now) domains.old.items ++ own_domain policy.now site.now) }
 {
     let host = site.name.as_str();
     if policy.mx.hosts(host).is_none() && is_at_site(alloc, policy, rollups, site, host)? {

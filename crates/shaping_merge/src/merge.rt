@@ -89,7 +89,8 @@ impl Merge {
         tables: &[&ShapeTable],
         source: &str,
     ) -> Result<(), Memory>
-        ensures { OnOk result (self.new ≡ laid_over self.old (flat_map (source_layers source.now) (map (λ table. table.now) tables.now))) }
+        ensures { OnOk result (self.new ≡ laid_over self.old
+            (flat_map (source_layers source.now) (map (λ table. table.now) tables.now))) }
     {
         for table in tables {
             self.add_source_table(alloc, table, source)?;

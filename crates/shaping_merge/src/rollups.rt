@@ -15,7 +15,8 @@ pub(crate) fn add_rollup(
     shape: &DomainShape,
 ) -> Result<bool, Memory>
     ensures answer { IfOk result (λ new. new ≡ is_none (get_by_text rollups.old shape.now.domain)) }
-    ensures rollups { OnOk result ((name : List ℕ) → get_by_text rollups.new name ≡ with_shape (get_by_text rollups.old name) shape.now name) }
+    ensures rollups { OnOk result ((name : List ℕ) → get_by_text rollups.new name
+        ≡ with_shape (get_by_text rollups.old name) shape.now name) }
 {
     let new = rollups.get(shape.domain.as_str()).is_none();
     let domain = String::from_str(alloc, shape.domain.as_str())?;

@@ -29,7 +29,8 @@ pub(crate) fn shapes_of<'p>(
     site: &Site,
 ) -> Result<Shapes<'p>, Memory>
     ensures rollups { IfOk result (λ shapes. AreRollups shapes.rollups policy.now.shaping.domains) }
-    ensures at_site { IfOk result (λ shapes. map (λ shape. shape.now) shapes.at_site.items ≡ filter (λ d. is_at_site policy.now site.now d.domain) (firsts (λ d. d.domain) policy.now.shaping.domains)) }
+    ensures at_site { IfOk result (λ shapes. map (λ shape. shape.now) shapes.at_site.items
+        ≡ filter (λ d. is_at_site policy.now site.now d.domain) (firsts (λ d. d.domain) policy.now.shaping.domains)) }
 {
     let mut rollups = BTreeMap::new(alloc);
     let mut at_site = Vec::new(alloc);
@@ -48,9 +49,13 @@ fn add_shape<'p>(
     at_site: &mut Vec<&'p DomainShape>,
     shape: &'p DomainShape,
 ) -> Result<(), Memory>
-    requires { get_by_text rollups.old shape.now.domain ≡ None → shape.now.rollup ≡ rollup_of (shape_of policy.now.shaping shape.now.domain) }
-    ensures rollups { OnOk result ((name : List ℕ) → get_by_text rollups.new name ≡ with_shape (get_by_text rollups.old name) shape.now name) }
-    ensures at_site { OnOk result (map (λ shape. shape.now) at_site.new.items ≡ map (λ shape. shape.now) at_site.old.items ++ kept_shape policy.now site.now (get_by_text rollups.old shape.now.domain) shape.now) }
+    requires { get_by_text rollups.old shape.now.domain ≡ None → shape.now.rollup
+        ≡ rollup_of (shape_of policy.now.shaping shape.now.domain) }
+    ensures rollups { OnOk result ((name : List ℕ) → get_by_text rollups.new name
+        ≡ with_shape (get_by_text rollups.old name) shape.now name) }
+    ensures at_site { OnOk result (map (λ shape. shape.now) at_site.new.items
+        ≡ map (λ shape. shape.now) at_site.old.items ++ kept_shape policy.now site.now
+        (get_by_text rollups.old shape.now.domain) shape.now) }
 {
     let domain = shape.domain.as_str();
     if add_rollup(alloc, rollups, shape)? && is_at(alloc, policy, shape.rollup, site, domain)? {

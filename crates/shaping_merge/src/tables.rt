@@ -40,7 +40,9 @@ fn add_of_providers<'p>(
     tables: &mut Vec<&'p ShapeTable>,
 ) -> Result<(), Memory>
     requires { AreDomainsOf policy.now site.now (map (λ domain. domain.now) domains.now) }
-    ensures { OnOk result (map (λ table. table.now) tables.new.items ≡ map (λ table. table.now) tables.old.items ++ map (λ p. p.table) (filter (is_provider_of policy.now site.now) (firsts (λ p. p.name) policy.now.shaping.providers))) }
+    ensures { OnOk result (map (λ table. table.now) tables.new.items
+        ≡ map (λ table. table.now) tables.old.items ++ map
+        (λ p. p.table) (filter (is_provider_of policy.now site.now) (firsts (λ p. p.name) policy.now.shaping.providers))) }
 {
     let mut met = BTreeSet::new(alloc);
     for provider in policy.shaping.providers.as_slice() {
@@ -54,7 +56,8 @@ fn add_of_providers<'p>(
 /// Whether a name is not among those that were met, to which it is added.
 fn is_new(alloc: Global, met: &mut BTreeSet<String>, name: &str) -> Result<bool, Memory>
     ensures answer { IfOk result (λ new. new ≡ not (contains_text met.old name.now)) }
-    ensures met { OnOk result ((other : List ℕ) → contains_text met.new other ≡ (bytes_eq name.now other || contains_text met.old other)) }
+    ensures met { OnOk result ((other : List ℕ) → contains_text met.new other
+        ≡ (bytes_eq name.now other || contains_text met.old other)) }
 {
     let key = String::from_str(alloc, name)?;
     Ok(met.insert(key)?)
@@ -69,7 +72,9 @@ fn add_of_provider<'p>(
     tables: &mut Vec<&'p ShapeTable>,
 ) -> Result<(), Memory>
     requires { AreDomainsOf policy.now site.now (map (λ domain. domain.now) domains.now) }
-    ensures { OnOk result (map (λ table. table.now) tables.new.items ≡ map (λ table. table.now) tables.old.items ++ map (λ p. p.table) (filter (is_provider_of policy.now site.now) (provider.now ∷ []))) }
+    ensures { OnOk result (map (λ table. table.now) tables.new.items
+        ≡ map (λ table. table.now) tables.old.items ++ map
+        (λ p. p.table) (filter (is_provider_of policy.now site.now) (provider.now ∷ []))) }
 {
     if is_provider_of(policy, site, domains, provider) {
         tables.push(&provider.table)?;
@@ -82,7 +87,8 @@ fn add_of_domains<'p>(
     domains: &[&'p DomainShape],
     tables: &mut Vec<&'p ShapeTable>,
 ) -> Result<(), Memory>
-    ensures { OnOk result (map (λ table. table.now) tables.new.items ≡ map (λ table. table.now) tables.old.items ++ map (λ d. d.table) (map (λ d. d.now) domains.now)) }
+    ensures { OnOk result (map (λ table. table.now) tables.new.items
+        ≡ map (λ table. table.now) tables.old.items ++ map (λ d. d.table) (map (λ d. d.now) domains.now)) }
 {
     for shape in domains {
         tables.push(&shape.table)?;

@@ -19,7 +19,8 @@ pub(crate) fn note_twice(
     faults: &mut FirstFault,
     document: &Table,
 ) -> Result<(), Memory>
-    ensures { OnOk result (faults.new ≡ first_of faults.old (faults_of_twice is_domain_table [] none_met (table_view document.now))) }
+    ensures { OnOk result (faults.new ≡ first_of faults.old
+        (faults_of_twice is_domain_table [] none_met (table_view document.now))) }
 {
     let mut met: BTreeSet<String> = BTreeSet::new(alloc);
     for (key, value) in document.iter() {
@@ -37,8 +38,10 @@ fn note_if_met(
     key: &str,
     value: &Value,
 ) -> Result<(), Memory>
-    ensures faults { OnOk result (faults.new ≡ first_of faults.old (faults_if_met (is_domain_table key.now (view value.now)) (contains_text met.old) [] key.now)) }
-    ensures met { OnOk result ((name : List ℕ) → contains_text met.new name ≡ met_with (is_domain_table key.now (view value.now)) (contains_text met.old) key.now name) }
+    ensures faults { OnOk result (faults.new ≡ first_of faults.old
+        (faults_if_met (is_domain_table key.now (view value.now)) (contains_text met.old) [] key.now)) }
+    ensures met { OnOk result ((name : List ℕ) → contains_text met.new name
+        ≡ met_with (is_domain_table key.now (view value.now)) (contains_text met.old) key.now name) }
 {
     if is_domain_table(key, value) {
         note_domain(alloc, faults, met, "", key)?;

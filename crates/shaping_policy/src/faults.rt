@@ -155,7 +155,8 @@ fn is_named_well(alloc: Global, kind: TableKind, name: &str) -> Result<bool, Mem
 
 /// What a table has to have: a provider a match.
 fn note_kind(alloc: Global, faults: &mut FirstFault, table: &FileTable<'_>) -> Result<(), Memory>
-    ensures { OnOk result (faults.new ≡ first_of faults.old (faults_of_kind table.now.kind table.now.place (table_view table.now.members.now))) }
+    ensures { OnOk result (faults.new ≡ first_of faults.old
+        (faults_of_kind table.now.kind table.now.place (table_view table.now.members.now))) }
 {
     match table.kind {
         TableKind::Provider => {
@@ -175,7 +176,8 @@ fn note_keys(
     place: &str,
     table: &Table,
 ) -> Result<(), Memory>
-    ensures { OnOk result (faults.new ≡ first_of faults.old (over_members (faults_at_key kind place.now) (table_view table.now))) }
+    ensures { OnOk result (faults.new ≡ first_of faults.old
+        (over_members (faults_at_key kind place.now) (table_view table.now))) }
 {
     for (key, value) in table.iter() {
         note_key(alloc, faults, kind, place, key.as_str(), value)?;
@@ -268,7 +270,8 @@ fn note_each_source(
     place: &str,
     sources: &Table,
 ) -> Result<(), Memory>
-    ensures { OnOk result (faults.new ≡ first_of faults.old (over_members (faults_of_source place.now) (table_view sources.now))) }
+    ensures { OnOk result (faults.new ≡ first_of faults.old
+        (over_members (faults_of_source place.now) (table_view sources.now))) }
 {
     for (name, value) in sources.iter() {
         note_source(alloc, faults, place, name.as_str(), value)?;

@@ -24,7 +24,8 @@ pub(crate) fn ignored_in(
     tables: &[FileTable],
     rules: &[RuleTable],
 ) -> Result<Vec<Ignored>, Memory>
-    ensures { IfOk result (λ keys. keys.items ≡ flat_map ignored_of_table (map seen_table tables.now) ++ flat_map ignored_of_rule (map seen_rule rules.now)) }
+    ensures { IfOk result (λ keys. keys.items ≡ flat_map ignored_of_table (map seen_table tables.now)
+        ++ flat_map ignored_of_rule (map seen_rule rules.now)) }
 {
     let mut ignored = Vec::new(alloc);
     add_tables(alloc, &mut ignored, tables)?;
@@ -66,7 +67,8 @@ fn add_keys(
     place: &str,
     members: &Table,
 ) -> Result<(), Memory>
-    ensures { OnOk result (ignored.new.items ≡ ignored.old.items ++ over_members (ignored_at_key kind place.now) (table_view members.now)) }
+    ensures { OnOk result (ignored.new.items ≡ ignored.old.items
+        ++ over_members (ignored_at_key kind place.now) (table_view members.now)) }
 {
     for (key, _) in members.iter() {
         if !is_known_key(kind, key.as_str()) {
@@ -129,7 +131,8 @@ fn add_rule_keys(
     place: &str,
     members: &Table,
 ) -> Result<(), Memory>
-    ensures { OnOk result (ignored.new.items ≡ ignored.old.items ++ over_members (ignored_at_rule_key place.now) (table_view members.now)) }
+    ensures { OnOk result (ignored.new.items ≡ ignored.old.items
+        ++ over_members (ignored_at_rule_key place.now) (table_view members.now)) }
 {
     for (key, _) in members.iter() {
         if !is_rule_key(key.as_str()) {

@@ -21,7 +21,8 @@ pub(crate) fn note_match(
     place: &str,
     value: Option<&Value>,
 ) -> Result<(), Memory>
-    ensures { OnOk result (faults.new ≡ first_of faults.old (faults_of_match place.now (option_map (λ v. view v.now) value.entry))) }
+    ensures { OnOk result (faults.new ≡ first_of faults.old
+        (faults_of_match place.now (option_map (λ v. view v.now) value.entry))) }
 {
     let Some(value) = value else {
         faults.note(alloc, place, "match", Why::BadMatch)?;
@@ -41,7 +42,8 @@ fn note_list(
     place: &str,
     matches: &[Value],
 ) -> Result<(), Memory>
-    ensures { OnOk result (faults.new ≡ first_of faults.old (faults_of_list match_at BadMatch place.now 0 (codes "match") (items_view matches.now))) }
+    ensures { OnOk result (faults.new ≡ first_of faults.old
+        (faults_of_list match_at BadMatch place.now 0 (codes "match") (items_view matches.now))) }
 {
     if matches.is_empty() {
         return faults.note(alloc, place, "match", Why::BadMatch);
@@ -57,7 +59,8 @@ fn note_each(
     place: &str,
     matches: &[Value],
 ) -> Result<(), Memory>
-    ensures { OnOk result (faults.new ≡ first_of faults.old (faults_from match_at place.now 0 (codes "match") 1 (items_view matches.now))) }
+    ensures { OnOk result (faults.new ≡ first_of faults.old
+        (faults_from match_at place.now 0 (codes "match") 1 (items_view matches.now))) }
 {
     for (index, value) in matches.iter().enumerate() {
         note_item(alloc, faults, place, index as u64 + 1, value)?;
@@ -73,7 +76,8 @@ fn note_item(
     item: u64,
     value: &Value,
 ) -> Result<(), Memory>
-    ensures { OnOk result (faults.new ≡ first_of faults.old (faults_of_read place.now 0 (codes "match") item (match_at (view value.now)))) }
+    ensures { OnOk result (faults.new ≡ first_of faults.old
+        (faults_of_read place.now 0 (codes "match") item (match_at (view value.now)))) }
 {
     if let Err(why) = suffix_at(value) {
         faults.note_in(alloc, place, 0, "match", item, why)?;
@@ -88,7 +92,8 @@ fn note_one(
     place: &str,
     value: &Value,
 ) -> Result<(), Memory>
-    ensures { OnOk result (faults.new ≡ first_of faults.old (faults_of_one match_at (is_table (view value.now)) place.now 0 (codes "match") (view value.now))) }
+    ensures { OnOk result (faults.new ≡ first_of faults.old
+        (faults_of_one match_at (is_table (view value.now)) place.now 0 (codes "match") (view value.now))) }
 {
     if is_table(value) {
         note_item(alloc, faults, place, 0, value)

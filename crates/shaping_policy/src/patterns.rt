@@ -94,7 +94,8 @@ fn note_list<S: Search>(
     items: &[Value],
     search: &mut S,
 ) -> Result<(), SearchFault>
-    ensures ok { OnOk result (faults.new ≡ first_of faults.old (faults_of_list pattern_at BadType rule.now.place rule.now.number (codes "regex") (items_view items.now))) }
+    ensures ok { OnOk result (faults.new ≡ first_of faults.old
+        (faults_of_list pattern_at BadType rule.now.place rule.now.number (codes "regex") (items_view items.now))) }
     ensures cause { HasSearchCause (S.seen search.old).faults (S.seen search.new).faults result }
 {
     if items.is_empty() {
@@ -111,7 +112,8 @@ fn note_items<S: Search>(
     items: &[Value],
     search: &mut S,
 ) -> Result<(), SearchFault>
-    ensures ok { OnOk result (faults.new ≡ first_of faults.old (faults_from pattern_at rule.now.place rule.now.number (codes "regex") 1 (items_view items.now))) }
+    ensures ok { OnOk result (faults.new ≡ first_of faults.old
+        (faults_from pattern_at rule.now.place rule.now.number (codes "regex") 1 (items_view items.now))) }
     ensures cause { HasSearchCause (S.seen search.old).faults (S.seen search.new).faults result }
 {
     for (index, value) in items.iter().enumerate() {
@@ -129,7 +131,8 @@ fn note_pattern<S: Search>(
     value: &Value,
     search: &mut S,
 ) -> Result<(), SearchFault>
-    ensures ok { OnOk result (faults.new ≡ first_of faults.old (faults_of_read rule.now.place rule.now.number (codes "regex") item (pattern_at (view value.now)))) }
+    ensures ok { OnOk result (faults.new ≡ first_of faults.old
+        (faults_of_read rule.now.place rule.now.number (codes "regex") item (pattern_at (view value.now)))) }
     ensures cause { HasSearchCause (S.seen search.old).faults (S.seen search.new).faults result }
 {
     if is_pattern(value, search)? {
@@ -158,7 +161,8 @@ fn note_text(
     item: u64,
     why: Why,
 ) -> Result<(), SearchFault>
-    ensures ok { OnOk result (faults.new ≡ first_of faults.old (fault_in rule.now.place rule.now.number (codes "regex") item why ∷ [])) }
+    ensures ok { OnOk result (faults.new ≡ first_of faults.old
+        (fault_in rule.now.place rule.now.number (codes "regex") item why ∷ [])) }
     ensures err { IfErr result (λ fault. fault ≡ SearchFault.Memory) }
 {
     match faults.note_in(alloc, rule.place.as_str(), rule.number, "regex", item, why) {

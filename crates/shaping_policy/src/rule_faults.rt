@@ -77,7 +77,8 @@ fn note_action(
     number: u64,
     value: Option<&Value>,
 ) -> Result<(), Memory>
-    ensures { OnOk result (faults.new ≡ first_of faults.old (faults_of_action place.now number (option_map (λ v. view v.now) value.entry))) }
+    ensures { OnOk result (faults.new ≡ first_of faults.old
+        (faults_of_action place.now number (option_map (λ v. view v.now) value.entry))) }
 {
     let Some(value) = value else {
         faults.note_in(alloc, place, number, "action", 0, Why::BadAction)?;
@@ -98,7 +99,8 @@ fn note_list(
     number: u64,
     actions: &[Value],
 ) -> Result<(), Memory>
-    ensures { OnOk result (faults.new ≡ first_of faults.old (faults_of_list action_at BadType place.now number (codes "action") (items_view actions.now))) }
+    ensures { OnOk result (faults.new ≡ first_of faults.old
+        (faults_of_list action_at BadType place.now number (codes "action") (items_view actions.now))) }
 {
     if actions.is_empty() {
         return faults.note_in(alloc, place, number, "action", 0, Why::BadType);
@@ -115,7 +117,8 @@ fn note_each(
     number: u64,
     actions: &[Value],
 ) -> Result<(), Memory>
-    ensures { OnOk result (faults.new ≡ first_of faults.old (faults_from action_at place.now number (codes "action") 1 (items_view actions.now))) }
+    ensures { OnOk result (faults.new ≡ first_of faults.old
+        (faults_from action_at place.now number (codes "action") 1 (items_view actions.now))) }
 {
     for (index, value) in actions.iter().enumerate() {
         note_item(alloc, faults, place, number, index as u64 + 1, value)?;
@@ -132,7 +135,8 @@ fn note_item(
     item: u64,
     value: &Value,
 ) -> Result<(), Memory>
-    ensures { OnOk result (faults.new ≡ first_of faults.old (faults_of_read place.now number (codes "action") item (action_at (view value.now)))) }
+    ensures { OnOk result (faults.new ≡ first_of faults.old
+        (faults_of_read place.now number (codes "action") item (action_at (view value.now)))) }
 {
     if let Err(why) = action_at(value) {
         faults.note_in(alloc, place, number, "action", item, why)?;
@@ -148,7 +152,9 @@ fn note_one(
     number: u64,
     value: &Value,
 ) -> Result<(), Memory>
-    ensures { OnOk result (faults.new ≡ first_of faults.old (faults_of_one action_at (is_text (view value.now) || is_table (view value.now)) place.now number (codes "action") (view value.now))) }
+    ensures { OnOk result (faults.new ≡ first_of faults.old
+        (faults_of_one action_at (is_text (view value.now) || is_table (view value.now)) place.now number (codes "action")
+        (view value.now))) }
 {
     if value.is_str() || is_table(value) {
         note_item(alloc, faults, place, number, 0, value)

@@ -199,7 +199,8 @@ pub(crate) fn lasting_at(value: Option<&Value>) -> Result<u64, Why>
 /// A match of a provider: a table of one suffix, and nothing else. `BadMatch` where it is none.
 #[tactic(auto, unfolding(crate::specs::Faults::match_at))]
 pub(crate) fn suffix_at(value: &Value) -> Result<Suffix<'_>, Why>
-    ensures { MatchResult result (λ suffix. match_at (view value.now) ≡ Ok (match_of suffix.kind suffix.text.now)) (λ why. match_at (view value.now) ≡ Err why) }
+    ensures { MatchResult result (λ suffix. match_at (view value.now) ≡ Ok (match_of suffix.kind suffix.text.now))
+        (λ why. match_at (view value.now) ≡ Err why) }
 {
     match value.as_table() {
         Some(table) => suffix_in(table),
@@ -209,7 +210,8 @@ pub(crate) fn suffix_at(value: &Value) -> Result<Suffix<'_>, Why>
 
 /// The suffix of a table.
 fn suffix_in(table: &Table) -> Result<Suffix<'_>, Why>
-    ensures { MatchResult result (λ suffix. match_in (table_view table.now) ≡ Ok (match_of suffix.kind suffix.text.now)) (λ why. match_in (table_view table.now) ≡ Err why) }
+    ensures { MatchResult result (λ suffix. match_in (table_view table.now) ≡ Ok (match_of suffix.kind suffix.text.now))
+        (λ why. match_in (table_view table.now) ≡ Err why) }
 {
     let (kind, key) = if holds_only(table, "MXSuffix", "MXSuffix") {
         (SuffixKind::Hosts, "MXSuffix")

@@ -67,7 +67,8 @@ fn shape_of(alloc: Global, table: &Table) -> Result<ShapeTable, Memory>
 
 /// What a table says for some sources alone.
 fn sources_of(alloc: Global, table: &Table) -> Result<Vec<SourceTable>, Memory>
-    ensures { IfOk result (λ sources. sources.items ≡ over_members source_given (members_at (codes "sources") (table_view table.now))) }
+    ensures { IfOk result (λ sources. sources.items ≡ over_members source_given
+        (members_at (codes "sources") (table_view table.now))) }
 {
     let mut sources = Vec::new(alloc);
     if let Some(tables) = table_at(table, "sources") {
@@ -113,7 +114,8 @@ fn source_table(alloc: Global, name: &str, table: &Table) -> Result<SourceTable,
 
 /// The providers.
 fn all_providers(alloc: Global, document: &Table) -> Result<Vec<Provider>, Memory>
-    ensures { IfOk result (λ providers. providers.items ≡ over_members provider_given (members_at (codes "provider") (table_view document.now))) }
+    ensures { IfOk result (λ providers. providers.items ≡ over_members provider_given
+        (members_at (codes "provider") (table_view document.now))) }
 {
     let mut providers = Vec::new(alloc);
     if let Some(tables) = table_at(document, "provider") {
@@ -159,7 +161,8 @@ fn provider_of(alloc: Global, name: &str, table: &Table) -> Result<Provider, Mem
 
 /// How a provider knows its sites: one match, or those of a list.
 fn matches_of(alloc: Global, table: &Table) -> Result<Vec<Match>, Memory>
-    ensures { IfOk result (λ matches. matches.items ≡ over_items matches_given (items_at (codes "match") (table_view table.now))) }
+    ensures { IfOk result (λ matches. matches.items ≡ over_items matches_given
+        (items_at (codes "match") (table_view table.now))) }
 {
     let mut matches = Vec::new(alloc);
     for value in items_at(table, "match") {

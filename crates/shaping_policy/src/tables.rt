@@ -67,7 +67,8 @@ fn add_tables<'d>(
     tables: &mut Vec<FileTable<'d>>,
     document: &'d Table,
 ) -> Result<(), Memory>
-    ensures { OnOk result (map seen_table tables.new.items ≡ map seen_table tables.old.items ++ over_members tables_at (table_view document.now)) }
+    ensures { OnOk result (map seen_table tables.new.items
+        ≡ map seen_table tables.old.items ++ over_members tables_at (table_view document.now)) }
 {
     for (key, value) in document.iter() {
         add_tables_at(alloc, tables, key.as_str(), value)?;
@@ -83,7 +84,8 @@ fn add_tables_at<'d>(
     key: &'d str,
     value: &'d Value,
 ) -> Result<(), Memory>
-    ensures { OnOk result (map seen_table tables.new.items ≡ map seen_table tables.old.items ++ tables_at key.now (view value.now)) }
+    ensures { OnOk result (map seen_table tables.new.items
+        ≡ map seen_table tables.old.items ++ tables_at key.now (view value.now)) }
 {
     let Some(members) = value.as_table() else {
         return Ok(());
@@ -104,7 +106,8 @@ fn add_providers<'d>(
     tables: &mut Vec<FileTable<'d>>,
     providers: &'d Table,
 ) -> Result<(), Memory>
-    ensures { OnOk result (map seen_table tables.new.items ≡ map seen_table tables.old.items ++ over_members provider_tables_at (table_view providers.now)) }
+    ensures { OnOk result (map seen_table tables.new.items
+        ≡ map seen_table tables.old.items ++ over_members provider_tables_at (table_view providers.now)) }
 {
     for (name, value) in providers.iter() {
         add_provider(alloc, tables, name.as_str(), value)?;
@@ -120,7 +123,8 @@ fn add_provider<'d>(
     name: &'d str,
     value: &'d Value,
 ) -> Result<(), Memory>
-    ensures { OnOk result (map seen_table tables.new.items ≡ map seen_table tables.old.items ++ provider_tables_at name.now (view value.now)) }
+    ensures { OnOk result (map seen_table tables.new.items
+        ≡ map seen_table tables.old.items ++ provider_tables_at name.now (view value.now)) }
 {
     if let Some(members) = value.as_table() {
         let place = joined(alloc, "provider", name)?;
@@ -145,7 +149,8 @@ fn add_with_sources<'d>(
     name: &'d str,
     members: &'d Table,
 ) -> Result<(), Memory>
-    ensures { OnOk result (map seen_table tables.new.items ≡ map seen_table tables.old.items ++ with_sources kind place.now name.now (table_view members.now)) }
+    ensures { OnOk result (map seen_table tables.new.items
+        ≡ map seen_table tables.old.items ++ with_sources kind place.now name.now (table_view members.now)) }
 {
     tables.push(file_table(alloc, kind, place, name, members)?)?;
     if let Some(sources) = table_at(members, "sources") {
@@ -162,7 +167,8 @@ fn add_sources<'d>(
     place: &str,
     sources: &'d Table,
 ) -> Result<(), Memory>
-    ensures { OnOk result (map seen_table tables.new.items ≡ map seen_table tables.old.items ++ over_members (source_at place.now) (table_view sources.now)) }
+    ensures { OnOk result (map seen_table tables.new.items
+        ≡ map seen_table tables.old.items ++ over_members (source_at place.now) (table_view sources.now)) }
 {
     for (name, value) in sources.iter() {
         add_source(alloc, tables, place, name.as_str(), value)?;
@@ -179,7 +185,8 @@ fn add_source<'d>(
     name: &'d str,
     value: &'d Value,
 ) -> Result<(), Memory>
-    ensures { OnOk result (map seen_table tables.new.items ≡ map seen_table tables.old.items ++ source_at place.now name.now (view value.now)) }
+    ensures { OnOk result (map seen_table tables.new.items
+        ≡ map seen_table tables.old.items ++ source_at place.now name.now (view value.now)) }
 {
     if let Some(members) = value.as_table() {
         let inner = joined(alloc, place, name)?;
@@ -246,7 +253,8 @@ fn add_rules<'d>(
     place: &str,
     list: &'d [Value],
 ) -> Result<(), Memory>
-    ensures { OnOk result (map seen_rule rules.new.items ≡ map seen_rule rules.old.items ++ rules_from place.now 1 (items_view list.now)) }
+    ensures { OnOk result (map seen_rule rules.new.items ≡ map seen_rule rules.old.items
+        ++ rules_from place.now 1 (items_view list.now)) }
 {
     for (index, value) in list.iter().enumerate() {
         add_rule(alloc, rules, place, index as u64 + 1, value)?;
@@ -263,7 +271,8 @@ fn add_rule<'d>(
     number: u64,
     value: &'d Value,
 ) -> Result<(), Memory>
-    ensures { OnOk result (map seen_rule rules.new.items ≡ map seen_rule rules.old.items ++ rule_at place.now number (view value.now)) }
+    ensures { OnOk result (map seen_rule rules.new.items ≡ map seen_rule rules.old.items
+        ++ rule_at place.now number (view value.now)) }
 {
     if let Some(members) = value.as_table() {
         rules.push(rule_table(alloc, place, number, members)?)?;

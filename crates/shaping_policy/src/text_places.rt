@@ -67,7 +67,8 @@ fn places_of_texts<'r>(alloc: Global, rules: &'r [RuleTable]) -> Result<Vec<Text
 /// Adds the places of a rule's texts.
 #[tactic(auto, unfolding(crate::specs::Faults::text_places))]
 fn add_texts<'r>(places: &mut Vec<TextPlace<'r>>, rule: &'r RuleTable) -> Result<(), Memory>
-    ensures { OnOk result (map seen_place places.new.items ≡ map seen_place places.old.items ++ text_places (seen_rule rule.now)) }
+    ensures { OnOk result (map seen_place places.new.items
+        ≡ map seen_place places.old.items ++ text_places (seen_rule rule.now)) }
 {
     let Some(value) = entry(rule.members, "regex") else {
         return Ok(());
@@ -84,7 +85,8 @@ fn add_items<'r>(
     rule: &'r RuleTable,
     items: &[Value],
 ) -> Result<(), Memory>
-    ensures { OnOk result (map seen_place places.new.items ≡ map seen_place places.old.items ++ text_places_from rule.now.place rule.now.number 1 (items_view items.now)) }
+    ensures { OnOk result (map seen_place places.new.items
+        ≡ map seen_place places.old.items ++ text_places_from rule.now.place rule.now.number 1 (items_view items.now)) }
 {
     for (index, value) in items.iter().enumerate() {
         add_text(places, rule, index as u64 + 1, value)?;
@@ -99,7 +101,8 @@ fn add_text<'r>(
     item: u64,
     value: &Value,
 ) -> Result<(), Memory>
-    ensures { OnOk result (map seen_place places.new.items ≡ map seen_place places.old.items ++ text_places_of rule.now.place rule.now.number item (view value.now)) }
+    ensures { OnOk result (map seen_place places.new.items
+        ≡ map seen_place places.old.items ++ text_places_of rule.now.place rule.now.number item (view value.now)) }
 {
     if value.as_str().is_some() {
         places.push(TextPlace {

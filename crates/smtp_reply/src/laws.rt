@@ -30,7 +30,8 @@ pub fn reply_is_no_front()
 
 /// A reply that is not too long is heard as whole, whatever stands behind it.
 pub fn reply_is_heard()
-    ensures { (bytes more : List ℕ) → is_reply bytes ≡ true → length bytes ≤ REPLY_LIMIT → heard (bytes ++ more) ≡ fed (length bytes) Whole }
+    ensures { (bytes more : List ℕ) → is_reply bytes ≡ true → length bytes ≤ REPLY_LIMIT → heard (bytes ++ more)
+        ≡ fed (length bytes) Whole }
 {}
 
 /// What is heard as whole is a reply that is not too long, with a code from 200 to 599 and a text that keeps its rules.

@@ -87,7 +87,8 @@ impl Said {
 
     /// Reads the next byte of a reply of which so many bytes came.
     pub(crate) fn read_byte(&mut self, place: Place, count: usize, byte: u8) -> Next
-        ensures { (bytes : List ℕ) → length bytes ≡ count → Stands place self.old bytes → Makes result self.new (bytes ++ byte ∷ []) }
+        ensures { (bytes : List ℕ) → length bytes ≡ count → Stands place self.old bytes
+            → Makes result self.new (bytes ++ byte ∷ []) }
     {
         match place {
             Place::Code(digit) => {
@@ -105,7 +106,8 @@ impl Said {
 
     /// Reads a digit of the first line's code.
     fn first_code(&mut self, digit: Digit, byte: u8) -> Next
-        ensures { (bytes : List ℕ) → length bytes < CODE_LENGTH → Stands (Place.Code digit) self.old bytes → Makes result self.new (bytes ++ byte ∷ []) }
+        ensures { (bytes : List ℕ) → length bytes < CODE_LENGTH → Stands (Place.Code digit) self.old bytes
+            → Makes result self.new (bytes ++ byte ∷ []) }
     {
         if !digit.may_be(byte) {
             return Next::Bad;
@@ -117,7 +119,8 @@ impl Said {
 
     /// Reads a digit of a later line's code, which is the first line's.
     fn same_code(&self, digit: Digit, byte: u8) -> Next
-        ensures { (bytes : List ℕ) → CODE_LENGTH ≤ length bytes → Stands (Place.Code digit) self.now bytes → Makes result self.now (bytes ++ byte ∷ []) }
+        ensures { (bytes : List ℕ) → CODE_LENGTH ≤ length bytes → Stands (Place.Code digit) self.now bytes
+            → Makes result self.now (bytes ++ byte ∷ []) }
     {
         if byte == self.code.at(digit) {
             Next::Front(digit.behind())

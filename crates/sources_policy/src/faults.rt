@@ -71,7 +71,8 @@ fn note_source_keys(
     place: &str,
     source: &Table,
 ) -> Result<(), Memory>
-    ensures { OnOk result (faults.new ≡ first_of faults.old (over_members (faults_at_source_key place.now) (table_view source.now))) }
+    ensures { OnOk result (faults.new ≡ first_of faults.old
+        (over_members (faults_at_source_key place.now) (table_view source.now))) }
 {
     for (key, value) in source.iter() {
         note_source_key(alloc, faults, place, key.as_str(), value)?;
@@ -132,7 +133,8 @@ fn note_pools(
     document: &Table,
     pools: &Table,
 ) -> Result<(), Memory>
-    ensures { OnOk result (faults.new ≡ first_of faults.old (over_members (faults_of_pool (members_at (codes "source") (table_view document.now))) (table_view pools.now))) }
+    ensures { OnOk result (faults.new ≡ first_of faults.old
+        (over_members (faults_of_pool (members_at (codes "source") (table_view document.now))) (table_view pools.now))) }
 {
     for (name, value) in pools.iter() {
         note_pool(alloc, faults, document, name.as_str(), value)?;
@@ -149,7 +151,8 @@ fn note_pool(
     name: &str,
     value: &Value,
 ) -> Result<(), Memory>
-    ensures { OnOk result (faults.new ≡ first_of faults.old (faults_of_pool (members_at (codes "source") (table_view document.now)) name.now (view value.now))) }
+    ensures { OnOk result (faults.new ≡ first_of faults.old
+        (faults_of_pool (members_at (codes "source") (table_view document.now)) name.now (view value.now))) }
 {
     let Some(table) = value.as_table() else {
         faults.note(alloc, "pool", name, Why::BadType)?;
@@ -186,7 +189,9 @@ fn note_entrants(
     place: &str,
     pool: &Table,
 ) -> Result<(), Memory>
-    ensures { OnOk result (faults.new ≡ first_of faults.old (over_members (faults_of_entrant (members_at (codes "source") (table_view document.now)) place.now) (table_view pool.now))) }
+    ensures { OnOk result (faults.new ≡ first_of faults.old
+        (over_members (faults_of_entrant (members_at (codes "source") (table_view document.now)) place.now)
+        (table_view pool.now))) }
 {
     for (source, value) in pool.iter() {
         note_entrant(alloc, faults, document, place, source.as_str(), value)?;
@@ -204,7 +209,8 @@ fn note_entrant(
     source: &str,
     value: &Value,
 ) -> Result<(), Memory>
-    ensures { OnOk result (faults.new ≡ first_of faults.old (faults_of_entrant (members_at (codes "source") (table_view document.now)) pool.now source.now (view value.now))) }
+    ensures { OnOk result (faults.new ≡ first_of faults.old
+        (faults_of_entrant (members_at (codes "source") (table_view document.now)) pool.now source.now (view value.now))) }
 {
     let Some(table) = value.as_table() else {
         faults.note(alloc, pool, source, Why::BadType)?;
@@ -225,7 +231,8 @@ fn note_if_unknown(
     place: &str,
     source: &str,
 ) -> Result<(), Memory>
-    ensures { OnOk result (faults.new ≡ first_of faults.old (faults_if_unknown (members_at (codes "source") (table_view document.now)) place.now source.now)) }
+    ensures { OnOk result (faults.new ≡ first_of faults.old
+        (faults_if_unknown (members_at (codes "source") (table_view document.now)) place.now source.now)) }
 {
     if !is_known_source(document, source) {
         faults.note(alloc, place, WHOLE_TABLE, Why::UnknownSource)?;
@@ -240,7 +247,8 @@ fn note_entrant_keys(
     place: &str,
     entrant: &Table,
 ) -> Result<(), Memory>
-    ensures { OnOk result (faults.new ≡ first_of faults.old (over_members (faults_at_entrant_key place.now) (table_view entrant.now))) }
+    ensures { OnOk result (faults.new ≡ first_of faults.old
+        (over_members (faults_at_entrant_key place.now) (table_view entrant.now))) }
 {
     for (key, value) in entrant.iter() {
         note_entrant_key(alloc, faults, place, key.as_str(), value)?;

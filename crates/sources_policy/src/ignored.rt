@@ -102,7 +102,8 @@ fn add_entrants(
     place: &str,
     pool: &Table,
 ) -> Result<(), Memory>
-    ensures { OnOk result (ignored.new.items ≡ ignored.old.items ++ over_members (ignored_of_entrant place.now) (table_view pool.now)) }
+    ensures { OnOk result (ignored.new.items ≡ ignored.old.items
+        ++ over_members (ignored_of_entrant place.now) (table_view pool.now)) }
 {
     for (source, value) in pool.iter() {
         add_entrant(alloc, ignored, place, source.as_str(), value)?;
@@ -136,7 +137,8 @@ fn add_others(
     place: &str,
     table: &Table,
 ) -> Result<(), Memory>
-    ensures { OnOk result (ignored.new.items ≡ ignored.old.items ++ over_members (ignored_but known.now place.now) (table_view table.now)) }
+    ensures { OnOk result (ignored.new.items ≡ ignored.old.items
+        ++ over_members (ignored_but known.now place.now) (table_view table.now)) }
 {
     for (key, _) in table.iter() {
         if key.as_str() != known {

@@ -59,7 +59,8 @@ impl Bucket {
     /// Whether the moments taken, with one more after them, keep the throttle. The one more may be before the last.
     #[tactic(auto, unfolding(crate::specs::Bucket::IsAdmitted))]
     pub fn admits(&self, t: u64) -> bool
-        ensures exact { (moments : List ℕ) → StandsFor self.now moments → (IsTrue result ↔ Conforms self.now.throttle (moments ++ clamped t ∷ [])) }
+        ensures exact { (moments : List ℕ) → StandsFor self.now moments
+            → (IsTrue result ↔ Conforms self.now.throttle (moments ++ clamped t ∷ [])) }
         ensures word { IsTrue result ↔ IsAdmitted self.now t }
     {
         has_room(&self.spec, self.arrival, t)
@@ -121,8 +122,10 @@ fn reach_with(spec: &ThrottleSpec, arrival: u128, t: u64) -> u128
 fn first_with_room(spec: &ThrottleSpec, arrival: u128) -> u64
     requires { arrival ≤ GREATEST_ARRIVAL }
     ensures within { result ≤ LAST_MOMENT }
-    ensures before { (v : ℕ) → v + 1 ≤ result → v * spec.now.quantity + spec.now.burst * spec.now.period + 1 ≤ arrival + spec.now.period }
-    ensures room { result + 1 ≤ LAST_MOMENT → arrival + spec.now.period ≤ result * spec.now.quantity + spec.now.burst * spec.now.period }
+    ensures before { (v : ℕ) → v + 1 ≤ result
+        → v * spec.now.quantity + spec.now.burst * spec.now.period + 1 ≤ arrival + spec.now.period }
+    ensures room { result + 1 ≤ LAST_MOMENT
+        → arrival + spec.now.period ≤ result * spec.now.quantity + spec.now.burst * spec.now.period }
 {
     let short = (arrival + u128::from(spec.period())).saturating_sub(allowance(spec));
     let first = short.div_ceil(u128::from(spec.quantity()));

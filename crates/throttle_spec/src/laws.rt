@@ -9,22 +9,26 @@ ghost use Rattle.throttle_spec.specs.declared.throttle.TheConstants.{GREATEST_QU
 
 /// Of moments that keep a throttle fewer than quantity and burst together are in a window of one period, its end left out.
 pub fn window_holds_fewer_than_quantity_and_burst()
-    ensures { (s : Throttle) (moments : List ℕ) (from : ℕ) → IsThrottle s → Conforms s moments → count_by (is_in from (from + s.period)) moments < s.quantity + s.burst }
+    ensures { (s : Throttle) (moments : List ℕ) (from : ℕ) → IsThrottle s → Conforms s moments
+        → count_by (is_in from (from + s.period)) moments < s.quantity + s.burst }
 {}
 
 /// Of moments that keep a throttle at most quantity and burst together are in a window of one period, with its end.
 pub fn closed_window_holds_at_most_quantity_and_burst()
-    ensures { (s : Throttle) (moments : List ℕ) (from : ℕ) → IsThrottle s → Conforms s moments → count_by (is_in_closed from (from + s.period)) moments ≤ s.quantity + s.burst }
+    ensures { (s : Throttle) (moments : List ℕ) (from : ℕ) → IsThrottle s → Conforms s moments
+        → count_by (is_in_closed from (from + s.period)) moments ≤ s.quantity + s.burst }
 {}
 
 /// Where a bucket has room, the moments that it stands for conform with one more, and nowhere else.
 pub fn room_decides_as_all_pairs()
-    ensures { (b : BucketState) (moments : List ℕ) (t : ℕ) → StandsFor b moments → (IsAdmitted b t ↔ Conforms b.throttle (moments ++ clamped t ∷ [])) }
+    ensures { (b : BucketState) (moments : List ℕ) (t : ℕ) → StandsFor b moments
+        → (IsAdmitted b t ↔ Conforms b.throttle (moments ++ clamped t ∷ [])) }
 {}
 
 /// Buckets of one throttle that stand for the same moments are the same.
 pub fn moments_determine_the_bucket()
-    ensures { (a : BucketState) (b : BucketState) (moments : List ℕ) → a.throttle ≡ b.throttle → StandsFor a moments → StandsFor b moments → a ≡ b }
+    ensures { (a : BucketState) (b : BucketState) (moments : List ℕ) → a.throttle ≡ b.throttle → StandsFor a moments
+        → StandsFor b moments → a ≡ b }
 {}
 
 /// The least admitted moment is from the moment asked for to the last one, conforms or is the last, and none before conforms.

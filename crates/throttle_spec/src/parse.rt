@@ -58,7 +58,8 @@ pub fn without_local(text: &str) -> &str
 
 /// What stands before and behind the first `,max_burst=`.
 fn around_burst(rate: &str) -> Option<(&str, &str)>
-    ensures { around_word (codes ",max_burst=") rate.now ≡ option_map (λ p. record { before = p.0.now; behind = p.1.now }) result }
+    ensures { around_word (codes ",max_burst=") rate.now ≡ option_map
+        (λ p. record { before = p.0.now; behind = p.1.now }) result }
 {
     rate.split_once(",max_burst=")
 }
