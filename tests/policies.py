@@ -206,7 +206,7 @@ COMPLAINTS = [
     r'SuspendTenant Threshold 100/86400000 for 43200000 on ["^5\\d\\d .*5\\.7\\.1 .*(spam|reputation)"]',
 ]
 OF_BIGBOX = [
-    r'SetConfig max_message_rate=60/60000 burst 60 Immediate for 3600000 on ["421 4\\.7\\.28"]',
+    r'SetConfig max_message_rate=60/3600000 burst 60 Immediate for 3600000 on ["421 4\\.7\\.28"]',
     r'SetConfig connection_limit=2 Immediate for 3600000 on ["421 4\\.7\\.28"]',
 ]
 
