@@ -1,5 +1,5 @@
 -- A policy as it is assembled, and what holds of its parts together.
-use Rattle.std.specs.Prelude.{◌≡◌, ℕ, nat_le, List, [], ◌∷◌, ◌++◌, Bool, false, not, ◌&&◌, ◌||◌, Option, Some, None, is_some, option_map, if◌then◌else◌, map, bytes_eq, codes, IsTrue, ⊤}
+use Rattle.std.specs.Prelude.{◌≡◌, ℕ, nat_le, nat_lt, List, [], ◌∷◌, ◌++◌, Bool, false, not, ◌&&◌, ◌||◌, Option, Some, None, is_some, option_map, if◌then◌else◌, map, bytes_eq, codes, IsTrue, ⊤}
 use Rattle.std.specs.List.{list_all, list_any, filter, flat_map}
 use Rattle.queue_name.specs.QueueName.{Name}
 use Rattle.kumo_base.specs.Limits.{latest_moment}
@@ -21,15 +21,15 @@ use Rattle.policy_core.specs.Layers.{settings_of}
 use Rattle.policy_core.specs.Names.{is_source_name}
 use Rattle.policy_core.specs.Mx.{comes_before, are_hosts_named}
 
--- the moments at which a run stops, the last of them the horizon: there is one, they do not fall, and none passes the last
--- moment
-abbrev pub climb_from : ℕ → List ℕ → Bool
-climb_from stop [] = nat_le stop latest_moment
-climb_from stop (next ∷ more) = nat_le stop next && climb_from next more
+-- the moments at which a run stops, the last of them the horizon: there is one, each is later than the one before it, and none
+-- is later than the latest moment
+abbrev pub ascend_from : ℕ → List ℕ → Bool
+ascend_from stop [] = nat_le stop latest_moment
+ascend_from stop (next ∷ more) = nat_lt stop next && ascend_from next more
 
 unfoldable pub are_stops : List ℕ → Bool
 are_stops [] = false
-are_stops (stop ∷ more) = climb_from stop more
+are_stops (stop ∷ more) = ascend_from stop more
 
 abbrev pub has_pool : Sources → List ℕ → Bool
 has_pool sources name = list_any (λ pool. bytes_eq pool.name name) sources.pools

@@ -21,7 +21,7 @@ use std::marker::Model;
 /// - the pool of every queue's settings is in `sources`, whatever the queue's name;
 /// - each entrant of a pool names a source;
 /// - the names of sources and of hosts keep the rules of `is_source_name` and `is_host_name`;
-/// - there is a stop, stops do not fall, and the last is at most `LAST_MOMENT`.
+/// - there is a stop, each stop is later than the one before it, and the last is at most `LAST_MOMENT`.
 #[derive(Drop)]
 pub struct Policy {
     pub sources: Sources,

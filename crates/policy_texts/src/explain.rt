@@ -10,7 +10,7 @@ use kumo_base::{Memory, Text};
 use policy_core::{Policy, Settings};
 use queue_name::QueueName;
 use queues_policy::settings_for;
-use shaping_merge::{explain_text, path_base, site};
+use shaping_merge::{explain_text, path_base, push_line, site};
 use std::alloc::Global;
 
 /// What applies to the messages of a queue that leave by a source, in lines of a name, a blank and a value: `queue`, `pool`,
@@ -55,25 +55,14 @@ fn settings_lines(alloc: Global, name: &QueueName, settings: &Settings) -> Resul
     let mut text = Text::new(alloc);
     push_line(&mut text, "queue", spelled.as_str())?;
     push_line(&mut text, "pool", settings.pool.as_str())?;
-    push_number(&mut text, "max_age", settings.max_age)?;
-    push_number(&mut text, "retry_interval", settings.retry_interval)?;
+    push_number_line(&mut text, "max_age", settings.max_age)?;
+    push_number_line(&mut text, "retry_interval", settings.retry_interval)?;
     push_optional(&mut text, "max_retry_interval", settings.max_retry_interval)?;
     Ok(text)
 }
 
-/// Appends a line of a name and a value.
-fn push_line(text: &mut Text, name: &str, value: &str) -> Result<(), Memory>
-    ensures { OnOk result (text.new ≡ text.old ++ line name.now value.now) }
-{
-    text.push_str(name)?;
-    text.push_str(" ")?;
-    text.push_str(value)?;
-    text.push_str("\n")?;
-    Ok(())
-}
-
 /// Appends a line of a name and a number.
-fn push_number(text: &mut Text, name: &str, number: u64) -> Result<(), Memory>
+fn push_number_line(text: &mut Text, name: &str, number: u64) -> Result<(), Memory>
     ensures { OnOk result (text.new ≡ text.old ++ line name.now (decimal number)) }
 {
     let mut buffer = Buffer::new();
@@ -85,7 +74,7 @@ fn push_optional(text: &mut Text, name: &str, number: Option<u64>) -> Result<(),
     ensures { OnOk result (text.new ≡ text.old ++ line name.now (number_text number)) }
 {
     match number {
-        Some(number) => push_number(text, name, number),
+        Some(number) => push_number_line(text, name, number),
         None => push_line(text, name, "none"),
     }
 }

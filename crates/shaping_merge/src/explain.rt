@@ -48,8 +48,8 @@ fn explained(alloc: Global, base: &PathBase, site: &Site, source: &str) -> Resul
     Ok(text)
 }
 
-/// Appends a line.
-fn push_line(text: &mut Text, name: &str, value: &str) -> Result<(), Memory>
+/// Appends a line of a name, a blank and a value.
+pub fn push_line(text: &mut Text, name: &str, value: &str) -> Result<(), Memory>
     ensures { OnOk result (text.new ≡ text.old ++ line name.now value.now) }
 {
     text.push_str(name)?;

@@ -16,7 +16,7 @@ mod shapes;
 mod sites;
 mod tables;
 
-pub use explain::explain_text;
+pub use explain::{explain_text, push_line};
 pub use merge::path_base;
 pub use policy_core::{PathBase, Site};
 pub use sites::site;

@@ -21,7 +21,7 @@ use Rattle.policy_core.specs.Policy.{has_pool, are_entrants_sources, are_sources
 use Rattle.policy_toml.specs.declared.fault.Fault.{Fault}
 use Rattle.policy_toml.specs.Places.{earlier, first_of, joined}
 use Rattle.policy_toml.specs.Walks.{over_members, on_table, table_at, members_at, faults_unless_table}
-use Rattle.sources_policy.specs.SourcesFile.{faults_of_name, faults_in_source, faults_of_source, is_known_source, faults_if_unknown, faults_in_entrant, faults_of_entrant, entrant_of, entrant_at, faults_if_many, faults_in_pool, faults_of_pool, faults_in, count_before, has_name, put_by_name, source_of, unspecified_source, source_at, sources_of, pool_of, unspecified_pool, pool_at, pools_of, sources_in}
+use Rattle.sources_policy.specs.SourcesFile.{faults_of_name, faults_in_source, faults_of_source, is_known_source, faults_if_unknown, faults_in_entrant, faults_of_entrant, entrant_of, entrant_at, faults_if_many, faults_in_pool, faults_of_pool, faults_in, count_before, has_name, put_if_new, source_of, unspecified_source, source_at, sources_of, pool_of, unspecified_pool, pool_at, pools_of, sources_in}
 
 -- two tests
 both_true : (a b : Bool) → a ≡ true → b ≡ true → (a && b) ≡ true
@@ -91,20 +91,20 @@ any_insert : {T : Type 0} (p : T → Bool) (xs : List T) (i : ℕ) (x : T) → l
 any_insert p xs i x = sym (list_any-IsPermutation p (x ∷ xs) (insert xs i x) (IsPermutation-insert xs i x))
 
 all_put : {T : Type 0} (name_of : T → List ℕ) (p : T → Bool) (item : T) (items : List T) → p item ≡ true → list_all p items ≡ true
-    → list_all p (put_by_name name_of item items) ≡ true
+    → list_all p (put_if_new name_of item items) ≡ true
 all_put {T} name_of p item items e f = by (has_name name_of (name_of item) items) where
   by : (b : Bool) → list_all p (if b then items else insert items (count_before name_of (name_of item) items) item) ≡ true
   by true = f
   by false = all_insert p items _ item e f
 
 any_put : {T : Type 0} (name_of : T → List ℕ) (p : T → Bool) (item : T) (items : List T) → list_any p items ≡ true
-    → list_any p (put_by_name name_of item items) ≡ true
+    → list_any p (put_if_new name_of item items) ≡ true
 any_put {T} name_of p item items f = by (has_name name_of (name_of item) items) where
   by : (b : Bool) → list_any p (if b then items else insert items (count_before name_of (name_of item) items) item) ≡ true
   by true = f
   by false = any_insert p items _ item ∙ second_true _ _ f
 
-itself_put : {T : Type 0} (name_of : T → List ℕ) (item : T) (items : List T) → has_name name_of (name_of item) (put_by_name name_of item items) ≡ true
+itself_put : {T : Type 0} (name_of : T → List ℕ) (item : T) (items : List T) → has_name name_of (name_of item) (put_if_new name_of item items) ≡ true
 itself_put {T} name_of item items = by (has_name name_of (name_of item) items) refl where
   by : (b : Bool) → has_name name_of (name_of item) items ≡ b
       → has_name name_of (name_of item) (if b then items else insert items (count_before name_of (name_of item) items) item) ≡ true

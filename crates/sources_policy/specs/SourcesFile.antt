@@ -130,8 +130,8 @@ abbrev pub has_name : {T : Type 0} → (T → List ℕ) → List ℕ → List T 
 has_name name_of name items = list_any (λ x. bytes_eq (name_of x) name) items
 
 -- an item at its place by name, unless there is one of its name
-abbrev pub put_by_name : {T : Type 0} → (T → List ℕ) → T → List T → List T
-put_by_name name_of item items =
+abbrev pub put_if_new : {T : Type 0} → (T → List ℕ) → T → List T → List T
+put_if_new name_of item items =
     if has_name name_of (name_of item) items then items
     else insert items (count_before name_of (name_of item) items) item
 
@@ -149,7 +149,7 @@ abbrev pub source_at : List ℕ → Data → List Source
 source_at name d = on_table (λ t. source_of name t ∷ []) [] (as_table d)
 
 abbrev pub sources_of : Members → List Source
-sources_of ms = put_by_name (λ s. s.name) unspecified_source (over_members source_at ms)
+sources_of ms = put_if_new (λ s. s.name) unspecified_source (over_members source_at ms)
 
 abbrev pub pool_of : List ℕ → Members → Pool
 pool_of name ms = record { name = name; entrants = entrants_of ms }
@@ -164,7 +164,7 @@ abbrev pub pool_at : List ℕ → Data → List Pool
 pool_at name d = on_table (λ t. pool_of name t ∷ []) [] (as_table d)
 
 abbrev pub pools_of : Members → List Pool
-pools_of ms = put_by_name (λ p. p.name) unspecified_pool (over_members pool_at ms)
+pools_of ms = put_if_new (λ p. p.name) unspecified_pool (over_members pool_at ms)
 
 unfoldable pub sources_in : Members → Sources
 sources_in ms = record {

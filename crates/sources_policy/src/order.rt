@@ -1,13 +1,13 @@
 //! Lists in byte order of names.
 ghost use Rattle.std.specs.Prelude.{◌≡◌, ◌≤◌, length, OnOk, OnErr};
-ghost use Rattle.sources_policy.specs.SourcesFile.{put_by_name, has_name, count_before};
+ghost use Rattle.sources_policy.specs.SourcesFile.{put_if_new, has_name, count_before};
 
 use kumo_base::Memory;
 use policy_toml::Named;
 
 /// Puts an item at its place by name, unless there is one of its name. After `Memory` the list is as it was.
-pub(crate) fn put_by_name<T: Named + Drop>(items: &mut Vec<T>, item: T) -> Result<(), Memory>
-    ensures ok { OnOk result (items.new.items ≡ put_by_name T.name_of item items.old.items) }
+pub(crate) fn put_if_new<T: Named + Drop>(items: &mut Vec<T>, item: T) -> Result<(), Memory>
+    ensures ok { OnOk result (items.new.items ≡ put_if_new T.name_of item items.old.items) }
     ensures err { OnErr result (items.new.items ≡ items.old.items) }
 {
     if has_name(items.as_slice(), item.name()) {

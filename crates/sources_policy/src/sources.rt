@@ -8,7 +8,7 @@ ghost use Rattle.toml.specs.View.{table_view};
 ghost use Rattle.policy_toml.specs.Walks.{over_members, members_at};
 ghost use Rattle.sources_policy.specs.SourcesFile.{sources_in, sources_of, pools_of, source_at, source_of, ehlo_of, weight_of, pool_at, pool_of, entrant_at, entrant_of, entrants_of, unspecified_source, unspecified_pool};
 
-use crate::order::put_by_name;
+use crate::order::put_if_new;
 use crate::values::{ehlo_at, weight_at};
 use kumo_base::{Items, Memory, Text};
 use policy_core::{DEFAULT_EHLO, Entrant, Pool, Source, Sources, UNSPECIFIED};
@@ -35,7 +35,7 @@ fn all_sources(alloc: Global, document: &Table) -> Result<Vec<Source>, Memory>
     if let Some(table) = table_at(document, "source") {
         add_sources(alloc, &mut sources, table)?;
     }
-    put_by_name(&mut sources, unspecified_source(alloc)?)?;
+    put_if_new(&mut sources, unspecified_source(alloc)?)?;
     Ok(sources)
 }
 
@@ -91,7 +91,7 @@ fn all_pools(alloc: Global, document: &Table) -> Result<Vec<Pool>, Memory>
     if let Some(table) = table_at(document, "pool") {
         add_pools(alloc, &mut pools, table)?;
     }
-    put_by_name(&mut pools, unspecified_pool(alloc)?)?;
+    put_if_new(&mut pools, unspecified_pool(alloc)?)?;
     Ok(pools)
 }
 
