@@ -1,7 +1,7 @@
 -- Commands by their first words and their options.
 use Rattle.std.proofs.Common.{◌≡◌, ℕ, List, [], ◌∷◌, true, false, Bool, Option, Some, None, is_some, option_and_then, refl, sym, ap, ◌∙◌, cond, bytes_eq, codes}
 use Rattle.std.specs.List.{before_first, after_first}
-use Rattle.command_words.specs.Options.{Given, is_equals, has_equals, is_value, with_option, options_behind, options_in}
+use Rattle.command_words.specs.Options.{GivenOption, is_equals, has_equals, is_value, with_option, options_behind, options_in}
 use Rattle.command_words.specs.inside.Walk.{given_before, given_behind, given_in}
 use Rattle.command_words.specs.Commands.{Command, if_allowed, command_with, command_of}
 use Rattle.command_words.specs.inside.Verbs.{verb_of, names_of, command_by}
@@ -9,17 +9,17 @@ use Rattle.command_words.specs.declared.verb.Verb.{Verb}
 use Rattle.command_words.specs.declared.verb.Verb.TheVariants as verb
 
 -- options that were read, beside those up to the first word that is none
-abbrev Same : Option (List Given) → List Given → Type 0
+abbrev Same : Option (List GivenOption) → List GivenOption → Type 0
 Same None given = Unit {0}
 Same (Some options) given = options ≡ given
 
-same_before : (name value : List ℕ) (o : Option (List Given)) (given : List Given) → Same o given
+same_before : (name value : List ℕ) (o : Option (List GivenOption)) (given : List GivenOption) → Same o given
     → Same (with_option name value o) (given_before name value given)
 same_before name [] o given same = tt
 same_before name (b ∷ value) None given same = tt
 same_before name (b ∷ value) (Some options) given same = ap (λ more. record { name = name; value = b ∷ value } ∷ more) same
 
-same_by : (t : Bool) (o p : Option (List Given)) (given others : List Given) → Same o given → Same p others
+same_by : (t : Bool) (o p : Option (List GivenOption)) (given others : List GivenOption) → Same o given → Same p others
     → Same (cond t o p) (cond t given others)
 same_by true o p given others same other = same
 same_by false o p given others same other = other
@@ -33,22 +33,22 @@ same_behind None (word ∷ more) =
     (same_behind (Some word) more)
 same_behind (Some name) (word ∷ more) = same_by (is_value word) _ None _ [] (same_before name word _ _ (same_behind None more)) tt
 
-then_same : (f : List Given → Option Command) (o : Option (List Given)) (given : List Given) → Same o given
+then_same : (f : List GivenOption → Option Command) (o : Option (List GivenOption)) (given : List GivenOption) → Same o given
     → option_and_then f o ≡ cond (is_some o) (f given) None
 then_same f None given same = refl
 then_same f (Some options) given same = ap f same
 
 -- what follows from options that were read
-pub then_read : (f : List Given → Option Command) (words : List (List ℕ))
+pub then_read : (f : List GivenOption → Option Command) (words : List (List ℕ))
     → option_and_then f (options_in words) ≡ cond (is_some (options_in words)) (f (given_in words)) None
 unfolding options_in given_in
 then_read f words = then_same f (options_behind None words) (given_behind None words) (same_behind None words)
 
 -- the command of a verb and options, where it takes them
-abbrev pub by_verb : Verb → List Given → Option Command
+abbrev pub by_verb : Verb → List GivenOption → Option Command
 by_verb v os = if_allowed (names_of v) os (command_by v os)
 
-by_tests : (os : List Given) (a b c d e f : Bool)
+by_tests : (os : List GivenOption) (a b c d e f : Bool)
     → cond a (by_verb verb.Check os)
     (cond b (by_verb verb.Explain os)
     (cond c (by_verb verb.Spool os)
@@ -65,18 +65,18 @@ by_tests os false false false false true f = refl
 by_tests os false false false false false true = refl
 by_tests os false false false false false false = refl
 
-with_word : (word : List ℕ) (os : List Given) → command_with word os ≡ option_and_then (λ v. by_verb v os) (verb_of word)
+with_word : (word : List ℕ) (os : List GivenOption) → command_with word os ≡ option_and_then (λ v. by_verb v os) (verb_of word)
 unfolding command_with
 with_word word os =
     by_tests os (bytes_eq word (codes "check")) (bytes_eq word (codes "explain")) (bytes_eq word (codes "spool"))
     (bytes_eq word (codes "send")) (bytes_eq word (codes "crew")) (bytes_eq word (codes "load"))
 
-then_verb : (word : List ℕ) (v : Verb) (o : Option (List Given)) → Some v ≡ verb_of word
+then_verb : (word : List ℕ) (v : Verb) (o : Option (List GivenOption)) → Some v ≡ verb_of word
     → option_and_then (command_with word) o ≡ option_and_then (by_verb v) o
 then_verb word v None is = refl
 then_verb word v (Some os) is = with_word word os ∙ ap (option_and_then (λ u. by_verb u os)) (sym is)
 
-then_none : (word : List ℕ) (o : Option (List Given)) → None ≡ verb_of word → option_and_then (command_with word) o ≡ None
+then_none : (word : List ℕ) (o : Option (List GivenOption)) → None ≡ verb_of word → option_and_then (command_with word) o ≡ None
 then_none word None is = refl
 then_none word (Some os) is = with_word word os ∙ ap (option_and_then (λ u. by_verb u os)) (sym is)
 

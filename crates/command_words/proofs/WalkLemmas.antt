@@ -2,7 +2,7 @@
 use Rattle.std.proofs.Common.{◌≡◌, ◌<◌, ◌&&◌, ◌==◌, ℕ, List, [], ◌∷◌, true, false, Bool, not, length, Option, Some, None, is_some, option_map, ne_eqb, refl, sym, ap, ◌∙◌, arith, cond, bytes_eq}
 use Rattle.std.proofs.lemmas.Bool.{and_right}
 use Rattle.std.specs.List.{list_any, list_all, before_first, after_first}
-use Rattle.command_words.specs.Options.{Given, is_equals, has_equals, is_value, with_option, options_in, is_named, value_of, is_among, are_allowed}
+use Rattle.command_words.specs.Options.{GivenOption, is_equals, has_equals, is_value, with_option, options_in, is_named, value_of, is_among, are_allowed}
 use denote.Ref.{Bor}
 use Rattle.command_words.specs.inside.Walk.{Front, front, front_of, front_behind, given_before, given_in}
 
@@ -20,7 +20,7 @@ abbrev pub Tells : List (List ℕ) → Option Front → Type 0
 Tells words None = IsEnd words
 Tells words (Some f) = IsBefore words f
 
-some_map : (o : Option (List Given)) (g : Given) → is_some (option_map (λ os. g ∷ os) o) ≡ is_some o
+some_map : (o : Option (List GivenOption)) (g : GivenOption) → is_some (option_map (λ os. g ∷ os) o) ≡ is_some o
 some_map None g = refl
 some_map (Some os) g = refl
 
@@ -68,7 +68,7 @@ before words f is = let h : Tells words (front words) = tells words in rw (← i
 pub ended : (words : List (List ℕ)) → None ≡ front words → IsEnd words
 ended words is = let h : Tells words (front words) = tells words in rw (← is) at h
 
-value_by : (name : List ℕ) (o : Given) (os : List Given) (t : Bool) → bytes_eq o.name name ≡ t
+value_by : (name : List ℕ) (o : GivenOption) (os : List GivenOption) (t : Bool) → bytes_eq o.name name ≡ t
     → value_of name (o ∷ os) ≡ cond t (Some o.value) (value_of name os)
 unfolding value_of
 value_by name o os true test = rw test refl
@@ -89,7 +89,7 @@ pub value_none : (name : List ℕ) (words : List (List ℕ)) → None ≡ front 
 unfolding value_of
 value_none name words is = rw (ended words is).given refl
 
-named_by : (name : List ℕ) (o : Given) (os : List Given) (t : Bool) → bytes_eq o.name name ≡ t
+named_by : (name : List ℕ) (o : GivenOption) (os : List GivenOption) (t : Bool) → bytes_eq o.name name ≡ t
     → list_any (is_named name) os ≡ is_some (value_of name os)
     → list_any (is_named name) (o ∷ os) ≡ is_some (value_of name (o ∷ os))
 unfolding value_of
@@ -97,7 +97,7 @@ named_by name o os true test more = rw test refl
 named_by name o os false test more = rw test more
 
 -- an option is given where it has a value
-is_given : (name : List ℕ) (os : List Given) → list_any (is_named name) os ≡ is_some (value_of name os)
+is_given : (name : List ℕ) (os : List GivenOption) → list_any (is_named name) os ≡ is_some (value_of name os)
 unfolding value_of
 is_given name [] = refl
 is_given name (o ∷ os) = named_by name o os _ refl (is_given name os)
@@ -106,7 +106,7 @@ no_more : (t more : Bool) → cond (t && false) more false ≡ false
 no_more true more = refl
 no_more false more = refl
 
-allowed_by : (names : List (List ℕ)) (o : Given) (os : List Given) (t u : Bool) → is_among names o ≡ t
+allowed_by : (names : List (List ℕ)) (o : GivenOption) (os : List GivenOption) (t u : Bool) → is_among names o ≡ t
     → is_some (value_of o.name os) ≡ u
     → are_allowed names (o ∷ os) ≡ cond (t && not u) (are_allowed names os) false
 unfolding are_allowed

@@ -4,10 +4,10 @@ use Rattle.queue_name.specs.QueueName.{Name, is_name, in_lower_case}
 use Rattle.kumo_base.specs.Limits.{latest_moment}
 use Rattle.policy_core.specs.Limits.{unspecified}
 use Rattle.command_words.specs.Limits.{greatest_workers, greatest_load}
-use Rattle.command_words.specs.Options.{Given, options_in, value_of, are_allowed, number_in}
+use Rattle.command_words.specs.Options.{GivenOption, options_in, value_of, are_allowed, number_in}
 
 -- the names of the policy texts, of those that are given
-pub record TextNames : Type 0 where
+pub record PolicyNames : Type 0 where
   pub sources : Option (List ℕ)
   pub queues : Option (List ℕ)
   pub shaping : Option (List ℕ)
@@ -15,14 +15,14 @@ pub record TextNames : Type 0 where
 
 -- what is asked about a queue's name and a source
 pub record Question : Type 0 where
-  pub texts : TextNames
+  pub texts : PolicyNames
   pub name : Name
   pub source : List ℕ
 
 -- what is sent, and how
 pub record Sending : Type 0 where
   pub mail : List ℕ
-  pub texts : TextNames
+  pub texts : PolicyNames
   pub peers : Option (List ℕ)
   pub orders : Option (List ℕ)
   pub until : Option ℕ
@@ -30,7 +30,7 @@ pub record Sending : Type 0 where
   pub spool : Option (List ℕ)
 
 pub data Command : Type 0 where
-  check : TextNames → Command
+  check : PolicyNames → Command
   explain : Question → Command
   spool : Option (List ℕ) → Command
   send : Sending → Command
@@ -61,7 +61,7 @@ abbrev pub names_of_load : List (List ℕ)
 names_of_load = codes "--seed" ∷ codes "--count" ∷ []
 
 -- what the options say
-abbrev pub texts_of : List Given → TextNames
+abbrev pub texts_of : List GivenOption → PolicyNames
 texts_of os = record {
   sources = value_of (codes "--sources") os;
   queues = value_of (codes "--queues") os;
@@ -70,21 +70,21 @@ texts_of os = record {
 }
 
 -- the domain counts in lower case
-abbrev pub name_asked : List Given → List ℕ → Name
+abbrev pub name_asked : List GivenOption → List ℕ → Name
 name_asked os domain = in_lower_case (record {
   campaign = value_of (codes "--campaign") os;
   tenant = value_of (codes "--tenant") os;
   domain = domain;
 })
 
-abbrev pub question_about : List Given → Name → Question
+abbrev pub question_about : List GivenOption → Name → Question
 question_about os name = record {
   texts = texts_of os;
   name = name;
   source = unwrap_or (value_of (codes "--source") os) unspecified;
 }
 
-abbrev pub question_if_name : List Given → Name → Option Command
+abbrev pub question_if_name : List GivenOption → Name → Option Command
 question_if_name os name = if is_name name then Some (explain (question_about os name)) else None
 
 -- a moment, where the option is given; none where its value is no moment
@@ -92,7 +92,7 @@ abbrev pub given_moment : Option (List ℕ) → Option (Option ℕ)
 given_moment None = Some None
 given_moment (Some text) = option_map (λ m. Some m) (number_in 0 latest_moment text)
 
-abbrev pub sending_of : List Given → List ℕ → Option ℕ → Option ℕ → Sending
+abbrev pub sending_of : List GivenOption → List ℕ → Option ℕ → Option ℕ → Sending
 sending_of os mail until start = record {
   mail = mail;
   texts = texts_of os;
@@ -103,7 +103,7 @@ sending_of os mail until start = record {
   spool = value_of (codes "--spool") os;
 }
 
-unfoldable pub sending_in : List Given → Option Sending
+unfoldable pub sending_in : List GivenOption → Option Sending
 sending_in os =
     option_and_then (λ mail.
     option_and_then (λ until.
@@ -112,27 +112,27 @@ sending_in os =
     (given_moment (value_of (codes "--until") os)))
     (value_of (codes "--mail") os)
 
-unfoldable pub workers_in : List Given → Option ℕ
+unfoldable pub workers_in : List GivenOption → Option ℕ
 workers_in os = option_and_then (number_in 1 greatest_workers) (value_of (codes "--workers") os)
 
-unfoldable pub load_in : List Given → Option Command
+unfoldable pub load_in : List GivenOption → Option Command
 load_in os =
     option_and_then (λ seed.
     option_map (load seed) (option_and_then (number_in 1 greatest_load) (value_of (codes "--count") os)))
     (option_and_then (number_in 0 (2 ^ 64 - 1)) (value_of (codes "--seed") os))
 
-unfoldable pub question_in : List Given → Option Command
+unfoldable pub question_in : List GivenOption → Option Command
 question_in os = option_and_then (λ domain. question_if_name os (name_asked os domain)) (value_of (codes "--domain") os)
 
-unfoldable pub crew_in : List Given → Option Command
+unfoldable pub crew_in : List GivenOption → Option Command
 crew_in os = option_and_then (λ sending. option_map (crew sending) (workers_in os)) (sending_in os)
 
 -- a command of the options, where these are all that it may have
-abbrev pub if_allowed : List (List ℕ) → List Given → Option Command → Option Command
+abbrev pub if_allowed : List (List ℕ) → List GivenOption → Option Command → Option Command
 if_allowed names os command = if are_allowed names os then command else None
 
 -- by the first word
-unfoldable pub command_with : List ℕ → List Given → Option Command
+unfoldable pub command_with : List ℕ → List GivenOption → Option Command
 command_with word os =
     if bytes_eq word (codes "check") then if_allowed names_of_texts os (Some (check (texts_of os)))
     else if bytes_eq word (codes "explain") then if_allowed names_of_question os (question_in os)

@@ -5,7 +5,7 @@ use Rattle.std.specs.Char.{is_ascii_digit}
 use Rattle.std.specs.Str.Parse.{digits_value}
 
 -- an option: its name with the two dashes, and its value
-pub record Given : Type 0 where
+pub record GivenOption : Type 0 where
   pub name : List ℕ
   pub value : List ℕ
 
@@ -21,12 +21,12 @@ is_value [] = false
 is_value (b ∷ word) = not (b == 45)
 
 -- an option before others; no value is empty
-abbrev pub with_option : List ℕ → List ℕ → Option (List Given) → Option (List Given)
+abbrev pub with_option : List ℕ → List ℕ → Option (List GivenOption) → Option (List GivenOption)
 with_option name [] more = None
 with_option name (b ∷ value) more = option_map (λ others. record { name = name; value = b ∷ value } ∷ others) more
 
 -- the options that words are, behind a name that still waits for its value, or not
-abbrev pub options_behind : Option (List ℕ) → List (List ℕ) → Option (List Given)
+abbrev pub options_behind : Option (List ℕ) → List (List ℕ) → Option (List GivenOption)
 options_behind None [] = Some []
 options_behind (Some name) [] = None
 options_behind None (word ∷ more) =
@@ -34,25 +34,25 @@ options_behind None (word ∷ more) =
     else options_behind (Some word) more
 options_behind (Some name) (word ∷ more) = if is_value word then with_option name word (options_behind None more) else None
 
-unfoldable pub options_in : List (List ℕ) → Option (List Given)
+unfoldable pub options_in : List (List ℕ) → Option (List GivenOption)
 options_in words = options_behind None words
 
 -- the value of an option, where it is given
-abbrev pub is_named : List ℕ → Given → Bool
+abbrev pub is_named : List ℕ → GivenOption → Bool
 is_named name option = bytes_eq option.name name
 
-unfoldable pub value_of : List ℕ → List Given → Option (List ℕ)
+unfoldable pub value_of : List ℕ → List GivenOption → Option (List ℕ)
 value_of name options = option_map (λ o. o.value) (find (is_named name) options)
 
 -- each option has one of these names, and no two have the same
-abbrev pub is_among : List (List ℕ) → Given → Bool
+abbrev pub is_among : List (List ℕ) → GivenOption → Bool
 is_among names option = list_any (λ name. bytes_eq option.name name) names
 
-abbrev pub are_once : List Given → Bool
+abbrev pub are_once : List GivenOption → Bool
 are_once [] = true
 are_once (option ∷ more) = not (list_any (is_named option.name) more) && are_once more
 
-unfoldable pub are_allowed : List (List ℕ) → List Given → Bool
+unfoldable pub are_allowed : List (List ℕ) → List GivenOption → Bool
 are_allowed names options = list_all (is_among names) options && are_once options
 
 -- the number that a text of 1 to 20 decimal digits is, where it is in a range

@@ -2,14 +2,14 @@
 use Rattle.std.specs.Prelude.{option_map}
 use Rattle.queue_name.specs.QueueName.{in_lower_case}
 use Rattle.queue_name.specs.NameParts.{name_of}
-use Rattle.command_words.specs.declared.names.PolicyNames.{PolicyNames}
-use Rattle.command_words.specs.declared.command.Asked.{Asked}
+use Rattle.command_words.specs.declared.names.PolicyNames.{PolicyNames as PolicyNameWords}
+use Rattle.command_words.specs.declared.command.Question.{Question as QuestionWords}
 use Rattle.command_words.specs.declared.command.Sending.{Sending as SendingWords}
 use Rattle.command_words.specs.declared.command.Command.{Command as Words}
 use Rattle.command_words.specs.declared.command.Command.TheVariants as words
-use Rattle.command_words.specs.Commands.{TextNames, Question, Sending, Command, check, explain, spool, send, crew, load}
+use Rattle.command_words.specs.Commands.{PolicyNames, Question, Sending, Command, check, explain, spool, send, crew, load}
 
-abbrev pub seen_names : PolicyNames → TextNames
+abbrev pub seen_names : PolicyNameWords → PolicyNames
 seen_names n = record {
   sources = option_map (λ s. s.now) n.sources;
   queues = option_map (λ s. s.now) n.queues;
@@ -18,7 +18,7 @@ seen_names n = record {
 }
 
 -- the domain counts in lower case
-abbrev pub seen_question : Asked → Question
+abbrev pub seen_question : QuestionWords → Question
 seen_question a = record {
   texts = seen_names a.texts;
   name = in_lower_case (name_of a.parts);

@@ -21,7 +21,7 @@ use std::alloc::Global;
 
 /// What is asked about a queue's name and a source.
 #[derive(Clone, Copy)]
-pub struct Asked<'a> {
+pub struct Question<'a> {
     pub texts: PolicyNames<'a>,
     /// The parts of the queue's name. The domain is as it was written; it counts in lower case.
     pub parts: NameParts<'a>,
@@ -53,7 +53,7 @@ pub enum Command<'a> {
     /// Check policy texts.
     Check(PolicyNames<'a>),
     /// Say what applies to a queue's name and a source.
-    Explain(Asked<'a>),
+    Explain(Question<'a>),
     /// Print the messages of the spool in a folder.
     Spool(Option<&'a str>),
     /// Send mail on one thread.
@@ -64,7 +64,7 @@ pub enum Command<'a> {
     Load(u64, u32),
 }
 
-impl<'a> Asked<'a> {
+impl<'a> Question<'a> {
     /// The name of the queue that is asked about.
     pub fn name(&self, alloc: Global) -> Result<QueueName, Memory>
         requires { IsTrue (is_name (seen_question self.now).name) }
@@ -156,7 +156,7 @@ fn question_in(options: &[Text]) -> Option<Command<'_>>
 {
     match value_of(options, "--domain") {
         Some(domain) => {
-            let asked = asked_of(options, domain);
+            let asked = question_of(options, domain);
             if asked.parts.is_name_in_lower_case() {
                 Some(Command::Explain(asked))
             } else {
@@ -168,10 +168,10 @@ fn question_in(options: &[Text]) -> Option<Command<'_>>
 }
 
 /// What options ask about a domain.
-fn asked_of<'a>(options: &'a [Text], domain: &'a str) -> Asked<'a>
+fn question_of<'a>(options: &'a [Text], domain: &'a str) -> Question<'a>
     ensures { seen_question result ≡ question_about (given_in options.now) (name_asked (given_in options.now) domain.now) }
 {
-    Asked {
+    Question {
         texts: texts_of(options),
         parts: NameParts {
             campaign: value_of(options, "--campaign"),

@@ -15,6 +15,6 @@ mod numbers;
 mod options;
 mod verb;
 
-pub use command::{Asked, Command, Sending, command_of};
+pub use command::{Command, Question, Sending, command_of};
 pub use names::PolicyNames;
 pub use numbers::{GREATEST_LOAD, GREATEST_WORKERS};

@@ -14,7 +14,7 @@ use kumo_base::{Text, around_first};
 
 /// An option.
 #[derive(Clone, Copy)]
-struct Given<'a> {
+struct GivenOption<'a> {
     /// With the two dashes.
     name: &'a str,
     value: &'a str,
@@ -63,7 +63,7 @@ pub(crate) fn are_allowed(verb: Verb, words: &[Text]) -> bool
 }
 
 /// The option in front of words, and the words behind it. None where there is no word, or where the first ones are no option.
-fn first_option(words: &[Text]) -> Option<(Given<'_>, &[Text])>
+fn first_option(words: &[Text]) -> Option<(GivenOption<'_>, &[Text])>
     ensures { option_map seen_front result ≡ front words.now }
 {
     match words {
@@ -76,7 +76,7 @@ fn first_option(words: &[Text]) -> Option<(Given<'_>, &[Text])>
 }
 
 /// An option whose value is the next word.
-fn with_next<'a>(name: &'a str, words: &'a [Text]) -> Option<(Given<'a>, &'a [Text])>
+fn with_next<'a>(name: &'a str, words: &'a [Text]) -> Option<(GivenOption<'a>, &'a [Text])>
     ensures { option_map seen_front result ≡ front_behind name.now words.now }
 {
     match words {
@@ -96,13 +96,13 @@ fn with_value<'a>(
     name: &'a str,
     value: &'a str,
     rest: &'a [Text],
-) -> Option<(Given<'a>, &'a [Text])>
+) -> Option<(GivenOption<'a>, &'a [Text])>
     ensures { option_map seen_front result ≡ front_of name.now value.now rest.now }
 {
     if value.is_empty() {
         None
     } else {
-        Some((Given { name, value }, rest))
+        Some((GivenOption { name, value }, rest))
     }
 }
 

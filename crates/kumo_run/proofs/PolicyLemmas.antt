@@ -3,7 +3,7 @@ use Rattle.std.proofs.Common.{◌≡◌, Result, IfErr, refl, sym, subst}
 use Rattle.std.proofs.lemmas.Result.{IfErr-weaker}
 use Rattle.kumo_outside.specs.Told.{TextsSeen}
 use Rattle.kumo_outside.specs.Search.{SearchSeen}
-use Rattle.command_words.specs.Commands.{TextNames}
+use Rattle.command_words.specs.Commands.{PolicyNames}
 use Rattle.policy_texts.specs.declared.load.LoadFault.{LoadFault}
 use Rattle.policy_texts.specs.declared.load.LoadFault.TheVariants as load_fault
 use Rattle.policy_texts.specs.Policies.{Stops, counts_of, HasCauseIn}
@@ -11,7 +11,7 @@ use Rattle.kumo_run.specs.declared.refusal.Refusal.{Refusal}
 use Rattle.kumo_run.specs.declared.refusal.Refusal.TheVariants as refusal
 use Rattle.kumo_run.specs.inside.PolicyCauses.{refusal_of_load, RefusesPolicy}
 
-module _ (before after : TextsSeen) (searching searched : SearchSeen) (names : TextNames) where
+module _ (before after : TextsSeen) (searching searched : SearchSeen) (names : PolicyNames) where
   by_fault : (fault : LoadFault) → HasCauseIn (Stops before.told names) (counts_of before after searching searched) fault
       → RefusesPolicy before after searching searched names (refusal_of_load fault)
   by_fault (load_fault.Refused place) h = λ b a. (refl, h)

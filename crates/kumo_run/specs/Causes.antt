@@ -6,7 +6,7 @@ use Rattle.kumo_outside.specs.declared.session.Session.{Session}
 use Rattle.kumo_outside.specs.Told.{TextsSeen, SinkSeen}
 use Rattle.kumo_outside.specs.Search.{SearchSeen}
 use Rattle.mail_input.specs.Inputs.{messages, refused as refused_mail}
-use Rattle.command_words.specs.Commands.{TextNames, Command, check, explain, spool, send, crew, load}
+use Rattle.command_words.specs.Commands.{PolicyNames, Command, check, explain, spool, send, crew, load}
 use Rattle.policy_texts.specs.Texts.{Stop, too_long, refused as refused_text}
 use Rattle.policy_texts.specs.Policies.{Stops}
 use Rattle.kumo_run.specs.declared.refusal.Refusal.{Refusal}
@@ -23,7 +23,7 @@ pub data Inputs : Type 0 where
   -- the command, or an option of it, is not built yet
   unbuilt : Inputs
   -- the texts of a policy
-  policy : TextNames → Inputs
+  policy : PolicyNames → Inputs
   -- the name of a mail text
   mail : List ℕ → Inputs
 

@@ -6,7 +6,7 @@ use Rattle.history_core.specs.declared.entry.Entry.{Entry}
 use Rattle.delivery_log.specs.LogText.{log_text}
 use Rattle.mail_input.specs.Inputs.{messages}
 use Rattle.scripted_peer.specs.ScriptedPeer.{LinkerState}
-use Rattle.command_words.specs.Commands.{TextNames, Sending, Command, check, explain, spool, send, crew, load}
+use Rattle.command_words.specs.Commands.{PolicyNames, Sending, Command, check, explain, spool, send, crew, load}
 use Rattle.kumo_run.specs.PolicyAnswers.{IsCheckText, IsExplainText}
 use Rattle.kumo_run.specs.MailRead.{MailRead, mail_gives, mail_read}
 use Rattle.kumo_run.specs.Outside.{Outside}
@@ -46,7 +46,7 @@ pub record RanMail (told : Option (List ℕ)) (h : List Entry) (sessions : List 
   pub run : IsRun mail h sessions
 
 -- a mail text is sent where nothing else is asked for
-abbrev pub names_no_text : TextNames → Bool
+abbrev pub names_no_text : PolicyNames → Bool
 names_no_text names = is_none names.sources && is_none names.queues && is_none names.shaping && is_none names.mx
 
 abbrev pub has_no_option : Sending → Bool

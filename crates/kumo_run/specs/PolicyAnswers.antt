@@ -2,13 +2,13 @@
 use Rattle.std.specs.Prelude.{◌≡◌, ℕ, List, Option}
 use Rattle.policy_core.specs.Policy.{Policy}
 use Rattle.policy_core.specs.declared.fault.Ignored.{Ignored}
-use Rattle.command_words.specs.Commands.{TextNames, Question}
+use Rattle.command_words.specs.Commands.{PolicyNames, Question}
 use Rattle.policy_texts.specs.Policies.{Loads}
 use Rattle.policy_texts.specs.Report.{IsCheckReport}
 use Rattle.policy_texts.specs.Explained.{explanation}
 
 -- the report on the keys without effect of texts that give a policy
-abbrev pub IsCheckText : (List ℕ → Option (List ℕ)) → TextNames → List ℕ → Type 0
+abbrev pub IsCheckText : (List ℕ → Option (List ℕ)) → PolicyNames → List ℕ → Type 0
 IsCheckText told names text =
     (policy : Policy) × (ignored : List Ignored) × Loads told names policy ignored × IsCheckReport ignored text
 

@@ -11,7 +11,7 @@ ghost use Rattle.policy_core.specs.PathTables.{path_text};
 ghost use Rattle.smtp_reply.specs.ReplyText.{IsProperOutcome};
 ghost use Rattle.smtp_dialogue.specs.Transcript.{parting};
 ghost use Rattle.smtp_dialogue.specs.Speaks.{Speaks, side};
-ghost use Rattle.kumo_run.specs.inside.OneDelivery.{promoted, opened, begun};
+ghost use Rattle.kumo_run.specs.inside.OneDelivery.{after_promotion, after_opening, after_beginning};
 ghost use Rattle.kumo_run.specs.inside.OneMessage.{IsFreshLink, Converses, Parts, Connects, Delivers};
 
 use crate::registry::Registry;
@@ -82,7 +82,7 @@ fn connect<K: Linker>(
     scratch: &mut Scratch,
     room: Room,
 ) -> Result<(), DeliveryFault>
-    requires history { registry.old.history ≡ opened message.now }
+    requires history { registry.old.history ≡ after_opening message.now }
     requires entries { ENTRIES ≤ registry.old.capacity }
     requires room { room ≡ [] }
     ensures told { IfSome (K.seen linker.old).sessions
@@ -102,7 +102,7 @@ fn connect<K: Linker>(
 /// A registry that took the message over and made it ready, with room for the entries to come.
 fn ready(alloc: Global, message: &Message) -> Result<Registry, Memory>
     requires { IsProperMessage message.now }
-    ensures history { IfOk result (λ registry. registry.history ≡ promoted message.now) }
+    ensures history { IfOk result (λ registry. registry.history ≡ after_promotion message.now) }
     ensures room { IfOk result (λ registry. ENTRIES ≤ registry.capacity) }
 {
     let source = Text::of(alloc, UNSPECIFIED)?;
@@ -130,7 +130,7 @@ fn converse<L: Link>(
     scratch: &mut Scratch,
     room: Room,
 ) -> Result<(), DeliveryFault>
-    requires history { registry.old.history ≡ opened message.now }
+    requires history { registry.old.history ≡ after_opening message.now }
     requires entries { ENTRIES ≤ registry.old.capacity }
     requires room { room ≡ [] }
     ensures opening { (L.seen link.new).opening ≡ (L.seen link.old).opening }
@@ -165,7 +165,7 @@ fn part<L: Link>(
     scratch: &mut Scratch,
     outcome: Outcome,
 ) -> Result<(), DeliveryFault>
-    requires history { registry.old.history ≡ begun message.now }
+    requires history { registry.old.history ≡ after_beginning message.now }
     requires entries { ENTRIES ≤ registry.old.capacity }
     requires outcome { IsProperOutcome outcome }
     ensures opening { (L.seen link.new).opening ≡ (L.seen link.old).opening }

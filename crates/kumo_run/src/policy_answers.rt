@@ -11,7 +11,7 @@ ghost use Rattle.kumo_run.specs.PolicyAnswers.{IsCheckText, IsExplainText};
 ghost use Rattle.kumo_run.specs.inside.PolicyCauses.{RefusesPolicy, refusal_of_load};
 
 use crate::refusal::Refusal;
-use command_words::{Asked, PolicyNames};
+use command_words::{PolicyNames, Question};
 use kumo_base::{Memory, Text};
 use kumo_outside::{Search, Texts};
 use policy_core::{Ignored, Policy};
@@ -40,7 +40,7 @@ pub(crate) fn check_text<T: Texts, S: Search>(
 pub(crate) fn explain_text<T: Texts, S: Search>(
     alloc: Global,
     texts: &mut T,
-    asked: &Asked<'_>,
+    asked: &Question<'_>,
     search: &mut S,
 ) -> Result<Text, Refusal>
     requires { IsTrue (is_name (seen_question asked.now).name) }
@@ -67,7 +67,7 @@ fn report_on(alloc: Global, keys: &[Ignored]) -> Result<String, Refusal>
 }
 
 /// What the policy says of the queue and the source that are asked about.
-fn answer(alloc: Global, policy: &Policy, asked: &Asked<'_>) -> Result<Text, Refusal>
+fn answer(alloc: Global, policy: &Policy, asked: &Question<'_>) -> Result<Text, Refusal>
     requires { IsTrue (is_name (seen_question asked.now).name) }
     ensures ok { IfOk result (λ text. text ≡ explanation policy.now (seen_question asked.now).name asked.now.source.now) }
     ensures err { IfErr result (λ why. why ≡ Refusal.Memory) }

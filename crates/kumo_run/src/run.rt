@@ -20,7 +20,7 @@ use crate::policy_answers::{check_text, explain_text};
 use crate::refusal::Refusal;
 use crate::send::send_mail_text;
 use crate::status::Status;
-use command_words::{Asked, Command, PolicyNames, Sending, command_of};
+use command_words::{Command, PolicyNames, Question, Sending, command_of};
 use delivery_log::{LogWriteFault, write_log};
 use history_core::History;
 use kumo_base::{Failed, Text};
@@ -184,7 +184,7 @@ fn run_check<T: Texts, O: Sink, S: Search>(
 /// Writes what applies to a queue's name and a source.
 fn run_explain<T: Texts, O: Sink, S: Search>(
     alloc: Global,
-    asked: &Asked<'_>,
+    asked: &Question<'_>,
     texts: &mut T,
     out: &mut O,
     search: &mut S,

@@ -16,7 +16,7 @@ use Rattle.mx_table.specs.MxText.{Joins}
 use Rattle.sources_policy.specs.SourcesFile.{SourcesFile}
 use Rattle.queues_policy.specs.QueuesFile.{QueuesFile}
 use Rattle.shaping_policy.specs.ShapingFile.{ShapingFile}
-use Rattle.command_words.specs.Commands.{TextNames}
+use Rattle.command_words.specs.Commands.{PolicyNames}
 use Rattle.policy_texts.specs.Texts.{Stop, refused, sources_given, queues_given, shaping_given, mx_given, told_by, MayBe}
 use Rattle.policy_texts.specs.Policies.{Parts, IsPolicyOf, Loads, Stops, HasCauseIn, load_fault_of, parts_of, together, unless_unknown}
 use Rattle.policy_texts.specs.inside.Stages.{Comes, StopsAtPools, no_counts}
@@ -68,7 +68,7 @@ unread None = ([], tt)
 unread (Some text) = (text, refl)
 
 -- the texts that the stages found, and for those that were not read the told ones or any
-module _ (told : List ℕ → Option (List ℕ)) (names : TextNames) where
+module _ (told : List ℕ → Option (List ℕ)) (names : PolicyNames) where
   pub stops_at_sources : (stop : Stop) → Comes sources_given (told_by told names.sources) (Err stop) → Stops told names stop
   unfolding parts_of
   stops_at_sources stop s =

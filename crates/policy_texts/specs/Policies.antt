@@ -17,7 +17,7 @@ use Rattle.sources_policy.specs.SourcesFile.{SourcesFile}
 use Rattle.queues_policy.specs.QueuesFile.{QueuesFile}
 use Rattle.shaping_policy.specs.ShapingFile.{ShapingFile}
 use Rattle.mx_table.specs.MxText.{Joins}
-use Rattle.command_words.specs.Commands.{TextNames}
+use Rattle.command_words.specs.Commands.{PolicyNames}
 use Rattle.policy_texts.specs.declared.load.LoadFault.{LoadFault}
 use Rattle.policy_texts.specs.declared.load.LoadFault.TheVariants as load_fault
 use Rattle.policy_texts.specs.Texts.{Stop, too_long, refused, sources_given, queues_given, shaping_given, mx_given, told_by, MayBe}
@@ -30,7 +30,7 @@ pub record Contents : Type 0 where
   pub mx : List ℕ
 
 -- each is the text that is told under its name, where one is told; a file without a name has the empty text
-pub record Agrees (told : List ℕ → Option (List ℕ)) (names : TextNames) (texts : Contents) : Type 0 where
+pub record Agrees (told : List ℕ → Option (List ℕ)) (names : PolicyNames) (texts : Contents) : Type 0 where
   pub sources : MayBe (told_by told names.sources) texts.sources
   pub queues : MayBe (told_by told names.queues) texts.queues
   pub shaping : MayBe (told_by told names.shaping) texts.shaping
@@ -82,13 +82,13 @@ pub record IsPolicyOf (parts : Parts) (policy : Policy) : Type 0 where
   pub stops_are : policy.stops ≡ latest_moment ∷ []
 
 -- texts that tell give a policy and keys without effect
-abbrev pub Loads : (List ℕ → Option (List ℕ)) → TextNames → Policy → List Ignored → Type 0
+abbrev pub Loads : (List ℕ → Option (List ℕ)) → PolicyNames → Policy → List Ignored → Type 0
 Loads told names policy ignored =
     (texts : Contents) × Agrees told names texts × (parts : Parts) × (parts_of texts ≡ Ok parts) × IsPolicyOf parts policy
     × (ignored ≡ parts.ignored)
 
 -- the first reason why texts give no policy
-abbrev pub Stops : (List ℕ → Option (List ℕ)) → TextNames → Stop → Type 0
+abbrev pub Stops : (List ℕ → Option (List ℕ)) → PolicyNames → Stop → Type 0
 Stops told names stop = (texts : Contents) × Agrees told names texts × (parts_of texts ≡ Err stop)
 
 -- the counts of faults of the texts and of the search engine, before a call and after

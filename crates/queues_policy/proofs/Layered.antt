@@ -8,7 +8,7 @@ use Rattle.policy_core.specs.declared.queues.TenantQueues.{TenantQueues}
 use Rattle.policy_core.specs.declared.queues.DomainQueues.{DomainQueues}
 use Rattle.policy_core.specs.declared.queues.Queues.{Queues}
 use Rattle.policy_core.proofs.LayerLemmas.{settings_in-push}
-use Rattle.queues_policy.specs.inside.InForce.{over, tenant_within, campaign_within}
+use Rattle.queues_policy.specs.inside.LaidSettings.{over, tenant_within, campaign_within}
 
 settings_in-over : (layers : List Layer) (layer : Option Layer) → settings_in (layers ++ option_to_list layer) ≡ over (settings_in layers) layer
 settings_in-over layers None = rw append-nil refl

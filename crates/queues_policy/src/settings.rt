@@ -5,7 +5,7 @@
 //! end, so that the one refusal is `Memory`.
 ghost use Rattle.std.specs.Prelude.{◌≡◌, [], IfOk, find, bytes_eq, unwrap_or, option_map, option_and_then};
 ghost use Rattle.policy_core.specs.Layers.{settings_of, settings_in, queues_of_domain, tenant_layer, layer_named};
-ghost use Rattle.queues_policy.specs.inside.InForce.{settings_now, over, tenant_within, campaign_within};
+ghost use Rattle.queues_policy.specs.inside.LaidSettings.{settings_now, over, tenant_within, campaign_within};
 
 use kumo_base::{Memory, Text};
 use policy_core::{
@@ -17,19 +17,19 @@ use std::alloc::Global;
 
 /// Settings while layers are laid over one another, with the pool's name where it stands.
 #[derive(Clone, Copy)]
-struct InForce<'q> {
+struct LaidSettings<'q> {
     max_age: u64,
     retry_interval: u64,
     max_retry_interval: Option<u64>,
     pool: &'q str,
 }
 
-impl<'q> InForce<'q> {
+impl<'q> LaidSettings<'q> {
     /// The settings where no layer sets one.
-    fn unset() -> InForce<'q>
+    fn unset() -> LaidSettings<'q>
         ensures { settings_now result ≡ settings_in [] }
     {
-        InForce {
+        LaidSettings {
             max_age: DEFAULT_MAX_AGE,
             retry_interval: DEFAULT_RETRY_INTERVAL,
             max_retry_interval: None,
@@ -38,13 +38,13 @@ impl<'q> InForce<'q> {
     }
 
     /// With a layer over them, where there is one.
-    fn with(self, layer: Option<&'q Layer>) -> InForce<'q>
+    fn with(self, layer: Option<&'q Layer>) -> LaidSettings<'q>
         ensures { settings_now result ≡ over (settings_now self.entry) (option_map (λ l. l.now) layer.entry) }
     {
         let Some(layer) = layer else {
             return self;
         };
-        InForce {
+        LaidSettings {
             max_age: layer.max_age.unwrap_or(self.max_age),
             retry_interval: layer.retry_interval.unwrap_or(self.retry_interval),
             max_retry_interval: layer.max_retry_interval.or(self.max_retry_interval),
@@ -79,12 +79,12 @@ pub fn settings_for(alloc: Global, queues: &Queues, name: &QueueName) -> Result<
 
 /// The settings of a queue's name.
 #[tactic(auto, unfolding(policy_core::specs::Layers::settings_of))]
-fn in_force<'q>(queues: &'q Queues, name: &QueueName) -> InForce<'q>
+fn in_force<'q>(queues: &'q Queues, name: &QueueName) -> LaidSettings<'q>
     ensures { settings_now result ≡ settings_of queues.now name.now }
 {
     let domain = domain_of(queues, name);
     let tenant = tenant_of(domain, name);
-    InForce::unset()
+    LaidSettings::unset()
         .with(Some(&queues.base))
         .with(tenant_layer(queues, name))
         .with(domain_layer(domain))

@@ -1,6 +1,6 @@
 -- An option in front of words, as the program has it.
 use Rattle.std.specs.Prelude.{ℕ, List}
-use Rattle.command_words.specs.declared.options.Given.{Given as GivenWords}
+use Rattle.command_words.specs.declared.options.GivenOption.{GivenOption as GivenWords}
 use Rattle.command_words.specs.inside.Walk.{Front}
 use denote.Ref.{Bor}
 

@@ -2,7 +2,7 @@
 use Rattle.std.specs.Prelude.{ℕ, List, [], ◌∷◌, Option, Some, None, bytes_eq, codes, if◌then◌else◌}
 use Rattle.command_words.specs.declared.verb.Verb.{Verb}
 use Rattle.command_words.specs.declared.verb.Verb.TheVariants as verb
-use Rattle.command_words.specs.Options.{Given, value_of}
+use Rattle.command_words.specs.Options.{GivenOption, value_of}
 use Rattle.command_words.specs.Commands.{names_of_texts, names_of_question, names_of_sending, names_of_crew, names_of_load, texts_of, Command, check, spool, send, question_in, sending_in, crew_in, load_in}
 use Rattle.std.specs.Option.{option_map}
 
@@ -26,7 +26,7 @@ names_of verb.Crew = names_of_crew
 names_of verb.Load = names_of_load
 
 -- the command of a verb and options that it takes
-abbrev pub command_by : Verb → List Given → Option Command
+abbrev pub command_by : Verb → List GivenOption → Option Command
 command_by verb.Check os = Some (check (texts_of os))
 command_by verb.Explain os = question_in os
 command_by verb.Spool os = Some (spool (value_of (codes "--spool") os))

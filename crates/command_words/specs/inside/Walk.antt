@@ -1,11 +1,11 @@
 -- Words read from the front, one option after another.
 use Rattle.std.specs.Prelude.{ℕ, List, [], ◌∷◌, Option, Some, None, if◌then◌else◌}
 use Rattle.std.specs.List.{before_first, after_first}
-use Rattle.command_words.specs.Options.{Given, is_equals, has_equals, is_value}
+use Rattle.command_words.specs.Options.{GivenOption, is_equals, has_equals, is_value}
 
 -- an option, and the words behind it
 pub record Front : Type 0 where
-  pub option : Given
+  pub option : GivenOption
   pub rest : List (List ℕ)
 
 -- an option where its value is not empty
@@ -26,12 +26,12 @@ front (word ∷ more) =
     else front_behind word more
 
 -- an option before others, where its value is not empty
-abbrev pub given_before : List ℕ → List ℕ → List Given → List Given
+abbrev pub given_before : List ℕ → List ℕ → List GivenOption → List GivenOption
 given_before name [] more = []
 given_before name (b ∷ value) more = record { name = name; value = b ∷ value } ∷ more
 
 -- the options up to the first word that is none, behind a name that still waits for its value, or not
-abbrev pub given_behind : Option (List ℕ) → List (List ℕ) → List Given
+abbrev pub given_behind : Option (List ℕ) → List (List ℕ) → List GivenOption
 given_behind None [] = []
 given_behind (Some name) [] = []
 given_behind None (word ∷ more) =
@@ -39,5 +39,5 @@ given_behind None (word ∷ more) =
     else given_behind (Some word) more
 given_behind (Some name) (word ∷ more) = if is_value word then given_before name word (given_behind None more) else []
 
-unfoldable pub given_in : List (List ℕ) → List Given
+unfoldable pub given_in : List (List ℕ) → List GivenOption
 given_in words = given_behind None words

@@ -18,23 +18,20 @@ entry what = record { at = 0; who = 0; what = what }
 abbrev pub path_to : Message → List ℕ
 path_to m = path_text unspecified m.name.domain
 
-abbrev pub accepted : Message → List Entry
-accepted m = entry (event.Accepted m) ∷ []
+abbrev pub after_acceptance : Message → List Entry
+after_acceptance m = entry (event.Accepted m) ∷ []
 
-abbrev pub promoted : Message → List Entry
-promoted m = accepted m ++ entry (event.Promoted m.id unspecified) ∷ []
+abbrev pub after_promotion : Message → List Entry
+after_promotion m = after_acceptance m ++ entry (event.Promoted m.id unspecified) ∷ []
 
-abbrev pub opened : Message → List Entry
-opened m = promoted m ++ entry (event.Opened 1 (path_to m) 0) ∷ []
+abbrev pub after_opening : Message → List Entry
+after_opening m = after_promotion m ++ entry (event.Opened 1 (path_to m) 0) ∷ []
 
-abbrev pub begun : Message → List Entry
-begun m = opened m ++ entry (event.Begun 1 m.id 0) ∷ []
+abbrev pub after_beginning : Message → List Entry
+after_beginning m = after_opening m ++ entry (event.Begun 1 m.id 0) ∷ []
 
-abbrev pub ended : Message → Reply → List Entry
-ended m reply = begun m ++ entry (event.Ended 1 m.id (Delivered reply) Settled) ∷ []
+abbrev pub after_ending : Message → Reply → List Entry
+after_ending m reply = after_beginning m ++ entry (event.Ended 1 m.id (Delivered reply) Settled) ∷ []
 
-abbrev pub closed : Message → Reply → List Entry
-closed m reply = ended m reply ++ entry (event.Closed 1 Empty) ∷ []
-
-abbrev pub stopped : List Entry → List Entry
-stopped h = h ++ entry event.Stopped ∷ []
+abbrev pub after_closing : Message → Reply → List Entry
+after_closing m reply = after_ending m reply ++ entry (event.Closed 1 Empty) ∷ []

@@ -10,7 +10,7 @@ use Rattle.history_core.specs.declared.entry.Entry.{Entry}
 use Rattle.smtp_dialogue.specs.Transcript.{IsTranscript}
 use Rattle.kumo_run.specs.declared.dispatcher.DeliveryFault.{DeliveryFault}
 use Rattle.kumo_run.specs.declared.dispatcher.DeliveryFault.TheVariants.{NotOpened, NotDelivered, Memory}
-use Rattle.kumo_run.specs.inside.OneDelivery.{closed}
+use Rattle.kumo_run.specs.inside.OneDelivery.{after_closing}
 use Rattle.kumo_run.specs.inside.RegistryState.{RegistryState}
 use Rattle.policy_core.specs.Limits.{localhost}
 use Rattle.kumo_run.specs.Delivery.{IsDeliveredBy, IsNotDelivered, IsSessionOf}
@@ -32,14 +32,14 @@ pub record Tells (m : Message) (link : LinkSeen) (P : Session → Type 0) : Type
 
 -- by the answer: the message was delivered in the session that the link tells, as the history then says, or was not
 abbrev pub Converses : {T : Type 0} → Message → LinkSeen → Result T DeliveryFault → List Entry → Type 0
-Converses m link (Ok x) h = Tells m link (λ s. (reply : Reply) × (h ≡ closed m reply) × IsDeliveredBy m reply s)
+Converses m link (Ok x) h = Tells m link (λ s. (reply : Reply) × (h ≡ after_closing m reply) × IsDeliveredBy m reply s)
 Converses m link (Err NotOpened) h = ⊥
 Converses m link (Err NotDelivered) h = Tells m link (IsNotDelivered m)
 Converses m link (Err Memory) h = ⊥
 
 -- by the answer: the outcome was the delivery that the history says, or another; and QUIT was spoken
 abbrev pub Parts : {T : Type 0} → Message → Outcome → Result T DeliveryFault → List Entry → Type 0 → Type 0
-Parts m outcome (Ok x) h spoken = (reply : Reply) × (outcome ≡ Delivered reply) × (h ≡ closed m reply) × spoken
+Parts m outcome (Ok x) h spoken = (reply : Reply) × (outcome ≡ Delivered reply) × (h ≡ after_closing m reply) × spoken
 Parts m outcome (Err NotOpened) h spoken = ⊥
 Parts m outcome (Err NotDelivered) h spoken = ((reply : Reply) → outcome ≡ Delivered reply → ⊥) × spoken
 Parts m outcome (Err Memory) h spoken = ⊥
@@ -54,7 +54,7 @@ pub record TellsOneMore (m : Message) (new : Option (List Session)) (before : Li
 -- by the answer of the work over a new link; where none was opened, as where memory ran out, no session was added
 abbrev pub Connects : {T : Type 0} → Message → Result T DeliveryFault → List Entry → Option (List Session) → List Session → Type 0
 Connects m (Ok x) h new before =
-    TellsOneMore m new before (λ s. (reply : Reply) × (h ≡ closed m reply) × IsDeliveredBy m reply s)
+    TellsOneMore m new before (λ s. (reply : Reply) × (h ≡ after_closing m reply) × IsDeliveredBy m reply s)
 Connects m (Err NotOpened) h new before = new ≡ Some before
 Connects m (Err NotDelivered) h new before = TellsOneMore m new before (IsNotDelivered m)
 Connects m (Err Memory) h new before = new ≡ Some before

@@ -1,7 +1,7 @@
 -- The refusal that a fault of policy texts comes to, and its cause.
 use Rattle.kumo_outside.specs.Told.{TextsSeen, SinkSeen}
 use Rattle.kumo_outside.specs.Search.{SearchSeen}
-use Rattle.command_words.specs.Commands.{TextNames}
+use Rattle.command_words.specs.Commands.{PolicyNames}
 use Rattle.policy_texts.specs.declared.load.LoadFault.{LoadFault}
 use Rattle.policy_texts.specs.declared.load.LoadFault.TheVariants as load_fault
 use Rattle.kumo_run.specs.declared.refusal.Refusal.{Refusal}
@@ -18,6 +18,6 @@ refusal_of_load load_fault.SearchFault = refusal.SearchFault
 refusal_of_load load_fault.Memory = refusal.Memory
 
 -- a text on policies is refused, whatever the sink shows
-abbrev pub RefusesPolicy : TextsSeen → TextsSeen → SearchSeen → SearchSeen → TextNames → Refusal → Type 0
+abbrev pub RefusesPolicy : TextsSeen → TextsSeen → SearchSeen → SearchSeen → PolicyNames → Refusal → Type 0
 RefusesPolicy before after searching searched names why =
     (b a : SinkSeen) → Refuses (policy names) (outside before b searching) (outside after a searched) nothing_done why

@@ -5,9 +5,9 @@ use Rattle.policy_core.specs.declared.settings.Settings.{Settings}
 use Rattle.policy_core.specs.declared.queues.TenantQueues.{TenantQueues}
 use Rattle.policy_core.specs.declared.queues.DomainQueues.{DomainQueues}
 use Rattle.policy_core.specs.Layers.{laid_over, layer_named}
-use Rattle.queues_policy.specs.declared.settings.InForce.{InForce}
+use Rattle.queues_policy.specs.declared.settings.LaidSettings.{LaidSettings}
 
-abbrev pub settings_now : InForce → Settings
+abbrev pub settings_now : LaidSettings → Settings
 settings_now f = record {
   max_age = f.max_age;
   retry_interval = f.retry_interval;
