@@ -99,26 +99,3 @@ fn replies_in_pieces(rt: HostRuntime) -> Result<(), Fail> {
     }
     Ok(())
 }
-
-/// What a reader answers to no reply, and after a restart to a reply.
-fn heard_after_restart(alloc: Global, reader: &mut ReplyReader) -> Result<String, Fail> {
-    let bad = reader.feed(bytes_of("25x"));
-    reader.restart();
-    let whole = reader.feed(bytes_of("250 a\n"));
-    Ok(format!(in alloc;
-        "{} {:?}, {} {:?}",
-        bad.used, bad.what, whole.used, whole.what
-    )?)
-}
-
-#[test]
-fn one_room_for_all_replies(rt: HostRuntime) -> Result<(), Fail> {
-    let alloc = rt.alloc();
-    let mut reader = ReplyReader::new(Room::new(alloc)?);
-    let restarted = heard_after_restart(alloc, &mut reader)?;
-    assert_eq!(rt; restarted.as_str(), "3 Bad(2), 6 Whole");
-    let next = ReplyReader::new(reader.back());
-    let found = heard_by(alloc, next, bytes_of("550 b\nx"), 7)?;
-    assert_eq!(rt; found.as_str(), "6 Whole 550 550 b");
-    Ok(())
-}

@@ -1,7 +1,7 @@
 //! What scripted peers reply, and what their linker tells.
 ghost use Rattle.std.specs.Prelude.{◌≡◌};
 
-use kumo_outside::{Link, Linker, Session};
+use kumo_outside::{Link, Linker};
 use scripted_peer::{PeerReplies, ScriptedLink, ScriptedLinker};
 use std::alloc::Global;
 use std::test::Fail;
@@ -82,44 +82,6 @@ fn plays_a_session(rt: HostRuntime) -> Result<(), Fail> {
     assert_eq!(rt; session.got.as_slice(), ANSWERED.as_bytes());
     assert_eq!(rt; session.ended, false);
     assert_eq!(rt; session.uses, [0; 8]);
-    Ok(())
-}
-
-/// The sums of the uses that sessions tell, one for each session.
-fn uses_of(alloc: Global, sessions: &[Session]) -> Result<Vec<[u32; 8]>, Fail> {
-    let mut uses = Vec::new(alloc);
-    for session in sessions {
-        uses.push(session.uses)?;
-    }
-    Ok(uses)
-}
-
-/// Opens a link to a host, says the bytes over it, if there are some, and gives it back.
-#[tactic(auto, using(crate::proofs::Opened::just_opened))]
-fn say_over(linker: &mut ScriptedLinker, host: &str, said: &[u8]) -> Result<(), Fail> {
-    let mut link = linker.open(host, "s")?;
-    if !said.is_empty() {
-        link.send(said)?;
-    }
-    linker.done(link);
-    Ok(())
-}
-
-#[test]
-fn knows_the_uses_of_a_host(rt: HostRuntime) -> Result<(), Fail> {
-    let mut linker = ScriptedLinker::new(rt.alloc(), PeerReplies::new());
-    say_over(&mut linker, "a", b"RSET\r\nRSET\r\nQUIT\r\n")?;
-    say_over(&mut linker, "b", b"")?;
-    say_over(&mut linker, "a", b"")?;
-    say_over(&mut linker, "a", b"")?;
-    let uses = uses_of(rt.alloc(), linker.sessions())?;
-    let expected = [
-        [0; 8],
-        [0; 8],
-        [1, 0, 0, 0, 0, 0, 2, 1],
-        [2, 0, 0, 0, 0, 0, 2, 1],
-    ];
-    assert_eq!(rt; uses.as_slice(), expected.as_slice());
     Ok(())
 }
 

@@ -55,49 +55,21 @@ const A: Option<usize> = Some(0);
 const B: Option<usize> = Some(1);
 
 #[test]
-fn turns_are_weighted(rt: HostRuntime) -> Result<(), Fail> {
+fn turns_go_by_weight(rt: HostRuntime) -> Result<(), Fail> {
     let without_first = [false, true, true];
-    let rows: [(&[bool], &[Option<usize>]); 3] = [
+    let last_alone = [false, false, true];
+    let rows: [(&[bool], &[Option<usize>]); 5] = [
         (ALL, &[A, B, A, A, B, A]),
         (&without_first, &[B, B]),
         (ALL, &[A, A]),
-    ];
-    expect_picks(&rt, rt.alloc(), &[2, 1, 0], &rows)
-}
-
-#[test]
-fn second_turn_follows_where_the_other_is_out(rt: HostRuntime) -> Result<(), Fail> {
-    let without_second = [true, false, true];
-    let rows: [(&[bool], &[Option<usize>]); 3] = [
-        (ALL, &[A]),
-        (&without_second, &[A]),
-        (ALL, &[A, B]),
-    ];
-    expect_picks(&rt, rt.alloc(), &[2, 1, 0], &rows)
-}
-
-#[test]
-fn nobody_is_picked(rt: HostRuntime) -> Result<(), Fail> {
-    let last_alone = [false, false, true];
-    let nobody = [false, false, false];
-    let rows: [(&[bool], &[Option<usize>]); 4] = [
         (&last_alone, &[None]),
-        (ALL, &[A]),
-        (&nobody, &[None]),
-        (ALL, &[B]),
+        (ALL, &[B, A, A]),
     ];
-    expect_picks(&rt, rt.alloc(), &[2, 1, 0], &rows)?;
+    expect_picks(&rt, rt.alloc(), &[2, 1, 0], &rows)
+}
+
+#[test]
+fn a_pool_without_turns(rt: HostRuntime) -> Result<(), Fail> {
     expect_picks(&rt, rt.alloc(), &[0], &[(&[true], &[None])])?;
     expect_picks(&rt, rt.alloc(), &[], &[(&[], &[None])])
-}
-
-#[test]
-fn heavier_entrant_has_the_later_rounds(rt: HostRuntime) -> Result<(), Fail> {
-    expect_picks(&rt, rt.alloc(), &[1, 2], &[(&[true, true], &[A, B, B, A])])?;
-    expect_picks(
-        &rt,
-        rt.alloc(),
-        &[u32::MAX, 1],
-        &[(&[true, true], &[A, B, A, A])],
-    )
 }

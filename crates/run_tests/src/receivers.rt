@@ -1,4 +1,4 @@
-//! Receivers that refuse, and receivers that reply in several lines.
+//! Receivers that refuse.
 use crate::transcript::{sent_over, shelf_with};
 use kumo_run::{PeerReplies, Refusal, send_mail_text};
 use std::alloc::Global;
@@ -43,16 +43,6 @@ fn other_code() -> PeerReplies {
     }
 }
 
-/// A receiver that replies in several lines, one of them without a carriage return.
-fn several_lines() -> PeerReplies {
-    PeerReplies {
-        greet: "220-a\r\n220 b",
-        ehlo: "250-a\r\n250-PIPELINING\r\n250 SIZE 1",
-        body: "250-2.0.0 ok\n250",
-        ..PeerReplies::new()
-    }
-}
-
 /// What receivers hear that do not take the message.
 fn refusing() -> [(PeerReplies, &'static str); 3] {
     [
@@ -72,13 +62,5 @@ fn a_receiver_that_refuses(rt: HostRuntime) -> Result<(), Fail> {
         assert!(rt; !is_taken);
         assert_eq!(rt; heard.as_slice(), wanted.as_bytes());
     }
-    Ok(())
-}
-
-#[test]
-fn replies_of_several_lines(rt: HostRuntime) -> Result<(), Fail> {
-    let (is_taken, heard) = talk(rt.alloc(), several_lines())?;
-    assert!(rt; is_taken);
-    assert!(rt; heard.ends_with(b"DATA\r\nhi\r\n.\r\nQUIT\r\n"));
     Ok(())
 }
