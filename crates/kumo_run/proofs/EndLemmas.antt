@@ -11,7 +11,7 @@ use Rattle.kumo_run.specs.RefusalLine.{refusal_line, status_of}
 use Rattle.kumo_run.specs.StatusCode.{number_of}
 use Rattle.kumo_run.specs.Outside.{Outside}
 use Rattle.kumo_run.specs.Ending.{done, unwritten, unfinished, refused, WroteUnlessFailed}
-use Rattle.kumo_run.specs.Deeds.{Deed, Does, answered, logged, spoken, all_sessions, asks_for_mail_alone}
+use Rattle.kumo_run.specs.Deeds.{Deed, Does, deed_of_text, deed_of_run, deed_of_sessions, all_sessions, asks_for_mail_alone}
 use Rattle.kumo_run.specs.Causes.{Inputs, mail, unbuilt, inputs_of, Refuses}
 use Rattle.kumo_run.specs.Ends.{EndsCommand}
 use Rattle.kumo_run.specs.inside.Writing.{Writes, WritesLog}
@@ -41,20 +41,20 @@ ends_written c b a status history d does is writes =
     ]
 
 -- a text was made and written, or the sink failed
-pub ends_answered : (c : Command) (b a : Outside) (status : Status) (history : Option (List Entry)) (text : List ℕ) → Does c b (answered text)
+pub ends_answered : (c : Command) (b a : Outside) (status : Status) (history : Option (List Entry)) (text : List ℕ) → Does c b (deed_of_text text)
     → history ≡ None → Writes status b.out a.out text → EndsCommand (Some c) b a (number_of status) history []
-ends_answered c b a status history text does is writes = ends_written c b a status history (answered text) does is writes
+ends_answered c b a status history text does is writes = ends_written c b a status history (deed_of_text text) does is writes
 
 -- a run went to its end and its log was written, or the sink failed, or memory ran out
 pub ends_logged : (c : Command) (b a : Outside) (status : Status) (history : Option (List Entry)) (h : List Entry) (sessions : List Session)
-    → Does c b (logged h sessions) → history ≡ Some h → WritesLog status b.out a.out (log_text h)
+    → Does c b (deed_of_run h sessions) → history ≡ Some h → WritesLog status b.out a.out (log_text h)
     → EndsCommand (Some c) b a (number_of status) history sessions
 ends_logged c b a status history h sessions does is writes =
     elim writes [
-      | inl written ↦ ends_written c b a status history (logged h sessions) does is written
+      | inl written ↦ ends_written c b a status history (deed_of_run h sessions) does is written
       | inr short ↦ record {
         ending = unfinished;
-        deed = logged h sessions;
+        deed = deed_of_run h sessions;
         status_is = ap number_of short.0;
         history_is = is;
         sessions_are = refl;
@@ -65,11 +65,11 @@ ends_logged c b a status history h sessions does is writes =
 
 -- a command was refused
 pub ends_refused : (c : Option Command) (b a : Outside) (status : Status) (history : Option (List Entry)) (sessions : List Session) (why : Refusal)
-    → Refuses (inputs_of c) b a (spoken sessions) why → status ≡ status_of why → history ≡ None
+    → Refuses (inputs_of c) b a (deed_of_sessions sessions) why → status ≡ status_of why → history ≡ None
     → WroteUnlessFailed b.out a.out (refusal_line why) → EndsCommand c b a (number_of status) history sessions
 ends_refused c b a status history sessions why refuses is none wrote = record {
   ending = refused why;
-  deed = spoken sessions;
+  deed = deed_of_sessions sessions;
   status_is = ap number_of is;
   history_is = none;
   sessions_are = refl;
@@ -79,7 +79,7 @@ ends_refused c b a status history sessions why refuses is none wrote = record {
 
 -- the same where no linker was used
 pub ends_unused : (c : Option Command) (b a : Outside) (status : Status) (history : Option (List Entry)) (linkers : List LinkerState) (why : Refusal)
-    → linkers ≡ [] → Refuses (inputs_of c) b a (spoken []) why → status ≡ status_of why → history ≡ None
+    → linkers ≡ [] → Refuses (inputs_of c) b a (deed_of_sessions []) why → status ≡ status_of why → history ≡ None
     → WroteUnlessFailed b.out a.out (refusal_line why) → EndsCommand c b a (number_of status) history (all_sessions linkers)
 ends_unused c b a status history linkers why unused refuses is none wrote =
     subst (λ (ks : List LinkerState). EndsCommand c b a (number_of status) history (all_sessions ks)) (sym unused)
@@ -92,10 +92,10 @@ ends_as c words b a code history linkers e unused h = rw (← e, unused) h
 
 -- the same by what the command is given
 pub ends_refused_by : (c : Option Command) (i : Inputs) (b a : Outside) (status : Status) (history : Option (List Entry))
-    (sessions : List Session) (why : Refusal) → inputs_of c ≡ i → Refuses i b a (spoken sessions) why → status ≡ status_of why
+    (sessions : List Session) (why : Refusal) → inputs_of c ≡ i → Refuses i b a (deed_of_sessions sessions) why → status ≡ status_of why
     → history ≡ None → WroteUnlessFailed b.out a.out (refusal_line why) → EndsCommand c b a (number_of status) history sessions
 ends_refused_by c i b a status history sessions why given refuses is none wrote =
-    ends_refused c b a status history sessions why (subst (λ (x : Inputs). Refuses x b a (spoken sessions) why) (sym given) refuses)
+    ends_refused c b a status history sessions why (subst (λ (x : Inputs). Refuses x b a (deed_of_sessions sessions) why) (sym given) refuses)
     is none wrote
 
 -- whether a mail alone is sent, by what the test of it answered

@@ -10,7 +10,7 @@ use Rattle.kumo_run.specs.declared.refusal.Refusal.{Refusal}
 use Rattle.kumo_run.specs.declared.refusal.Refusal.TheVariants as refusal
 use Rattle.kumo_run.specs.MailRead.{MailRead, too_long, mail_gives, mail_read, IsMany}
 use Rattle.scripted_peer.specs.ScriptedPeer.{LinkerState}
-use Rattle.kumo_run.specs.Deeds.{MailSays, spoken, all_sessions}
+use Rattle.kumo_run.specs.Deeds.{MailSays, deed_of_sessions, all_sessions}
 use Rattle.kumo_run.specs.Causes.{RefusesMail}
 use Rattle.kumo_run.specs.inside.SendCauses.{IsMisread, StopsShort}
 use Rattle.kumo_run.proofs.MailLemmas.{same_read}
@@ -41,9 +41,9 @@ module _ (before after : TextsSeen) (name : List ℕ) where
         (λ found e. e ∙ ap (λ (ms : List Message). mail_gives (messages ms)) is) given
 
     pub stops_short : (why : Refusal) → StopsShort why mail sessions → RefusesMail before after name sessions why
-    stops_short refusal.Memory none = λ b a searching searched. (ap spoken none, tt)
+    stops_short refusal.Memory none = λ b a searching searched. (ap deed_of_sessions none, tt)
     stops_short refusal.NotYetMail (many, none) = λ b a searching searched.
-        (ap spoken none, says_more (before.told name) (λ found. found ≡ mail_gives (messages mail)) IsMany (λ found e. record { mail = mail; read = e; many = many }) given)
+        (ap deed_of_sessions none, says_more (before.told name) (λ found. found ≡ mail_gives (messages mail)) IsMany (λ found e. record { mail = mail; read = e; many = many }) given)
     stops_short refusal.NotYetReply (m, s, is, sessions_are, short) = λ b a searching searched.
         (refl, record { message = m; session = s; given = as_one m is; sessions_are = sessions_are; session_is = short })
     stops_short _ h = absurd h

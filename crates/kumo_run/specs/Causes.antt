@@ -14,7 +14,7 @@ use Rattle.kumo_run.specs.declared.refusal.Refusal.TheVariants as refusal
 use Rattle.kumo_run.specs.MailRead.{MailRead, too_long as too_long_mail, mail_gives, IsMany}
 use Rattle.kumo_run.specs.Delivery.{IsSessionOf, IsNotDelivered}
 use Rattle.kumo_run.specs.Outside.{Outside, outside}
-use Rattle.kumo_run.specs.Deeds.{Deed, nothing_done, spoken, MailSays, asks_for_mail_alone}
+use Rattle.kumo_run.specs.Deeds.{Deed, nothing_done, deed_of_sessions, MailSays, asks_for_mail_alone}
 
 -- what a command is given to work on
 pub data Inputs : Type 0 where
@@ -92,7 +92,7 @@ Cause i b a d refusal.NotYetReply = HasOneSession i b d.sessions FallsShort
 
 -- what was done before a refusal: nothing; a receiver was spoken to where it did not take the message
 abbrev pub BeganTo : Deed → Refusal → Type 0
-BeganTo d refusal.NotYetReply = d ≡ spoken d.sessions
+BeganTo d refusal.NotYetReply = d ≡ deed_of_sessions d.sessions
 BeganTo d _ = d ≡ nothing_done
 
 abbrev pub Refuses : Inputs → Outside → Outside → Deed → Refusal → Type 0
@@ -102,4 +102,4 @@ Refuses i b a d why = BeganTo d why × Cause i b a d why
 abbrev pub RefusesMail : TextsSeen → TextsSeen → List ℕ → List Session → Refusal → Type 0
 RefusesMail before after name sessions why =
     (b a : SinkSeen) (searching searched : SearchSeen)
-    → Refuses (mail name) (outside before b searching) (outside after a searched) (spoken sessions) why
+    → Refuses (mail name) (outside before b searching) (outside after a searched) (deed_of_sessions sessions) why

@@ -19,17 +19,17 @@ pub record Deed : Type 0 where
   pub sessions : List Session
 
 -- receivers were spoken to and nothing came of it; a text was made; a run went to its end, and its log is to be printed
-abbrev pub spoken : List Session → Deed
-spoken sessions = record { text = []; history = None; sessions = sessions }
+abbrev pub deed_of_sessions : List Session → Deed
+deed_of_sessions sessions = record { text = []; history = None; sessions = sessions }
 
 abbrev pub nothing_done : Deed
-nothing_done = spoken []
+nothing_done = deed_of_sessions []
 
-abbrev pub answered : List ℕ → Deed
-answered text = record { text = text; history = None; sessions = [] }
+abbrev pub deed_of_text : List ℕ → Deed
+deed_of_text text = record { text = text; history = None; sessions = [] }
 
-abbrev pub logged : List Entry → List Session → Deed
-logged h sessions = record { text = log_text h; history = Some h; sessions = sessions }
+abbrev pub deed_of_run : List Entry → List Session → Deed
+deed_of_run h sessions = record { text = log_text h; history = Some h; sessions = sessions }
 
 -- the sessions that linkers tell, one linker after the other
 abbrev pub all_sessions : List LinkerState → List Session
@@ -57,10 +57,10 @@ asks_for_mail_alone s = names_no_text s.texts && has_no_option s
 
 -- the deed of each command; those that are not built have none
 abbrev pub Does : Command → Outside → Deed → Type 0
-Does (check names) b d = (text : List ℕ) × IsCheckText b.texts.told names text × (d ≡ answered text)
-Does (explain question) b d = (text : List ℕ) × IsExplainText b.texts.told question text × (d ≡ answered text)
+Does (check names) b d = (text : List ℕ) × IsCheckText b.texts.told names text × (d ≡ deed_of_text text)
+Does (explain question) b d = (text : List ℕ) × IsExplainText b.texts.told question text × (d ≡ deed_of_text text)
 Does (spool folder) b d = ⊥
 Does (send s) b d =
-    IsTrue (asks_for_mail_alone s) × (h : List Entry) × RanMail (b.texts.told s.mail) h d.sessions × (d ≡ logged h d.sessions)
+    IsTrue (asks_for_mail_alone s) × (h : List Entry) × RanMail (b.texts.told s.mail) h d.sessions × (d ≡ deed_of_run h d.sessions)
 Does (crew s workers) b d = ⊥
 Does (load seed count) b d = ⊥

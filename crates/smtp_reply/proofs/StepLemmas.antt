@@ -10,7 +10,7 @@ use Rattle.smtp_reply.specs.declared.place.Place.TheVariants.{Code, AfterCode, A
 use Rattle.smtp_reply.specs.declared.place.Next.TheVariants.{Whole, Front, Bad}
 use Rattle.smtp_reply.specs.declared.said.Said.{Said}
 use Rattle.smtp_reply.specs.Grammar.{is_line_feed, is_end, is_going_on, is_tail_front, is_line_front}
-use Rattle.smtp_reply.specs.Replies.{text_of_line, shown_more, has_bytes, waiting, comes, one_line_text}
+use Rattle.smtp_reply.specs.Replies.{text_of_line, shown_more, has_bytes, waiting, bytes_added, one_line_text}
 use Rattle.smtp_reply.specs.Reading.{line_begun, mark, IsAt, Stands, Makes}
 use Rattle.smtp_reply.proofs.FrontLemmas.{and_both, and_is, same_byte}
 use Rattle.smtp_reply.proofs.TextLemmas.{text_more, waits_more, shown_line_more, has_bytes-append, text-byte, text-same}
@@ -171,8 +171,8 @@ mark_front false text = refl
 
 -- in a text: another byte
 pub text_byte : (said after : Said) (line next : LineText) (bytes : List ℕ) (b : ℕ) → is_line_feed b ≡ false
-    → after.code ≡ said.code → after.text ≡ take REPLY_TEXT_LIMIT (said.text ++ shown_more line.began (comes line.waits b))
-    → next.goes_on ≡ line.goes_on → next.began ≡ (line.began || has_bytes (comes line.waits b)) → next.waits ≡ (b == 13)
+    → after.code ≡ said.code → after.text ≡ take REPLY_TEXT_LIMIT (said.text ++ shown_more line.began (bytes_added line.waits b))
+    → next.goes_on ≡ line.goes_on → next.began ≡ (line.began || has_bytes (bytes_added line.waits b)) → next.waits ≡ (b == 13)
     → Stands (Text line) said bytes → Makes (Front (Text next)) after (bytes ++ b ∷ [])
 text_byte said after line next bytes b other code text goes_on began waits stands =
     with_code (λ (bytes : List ℕ). Stands (Text line) said bytes → Makes (Front (Text next)) after (bytes ++ b ∷ []))
@@ -184,12 +184,12 @@ text_byte said after line next bytes b other code text goes_on began waits stand
     (and_is (bytes_eq (x ∷ (y ∷ (z ∷ []))) (x ∷ (y ∷ (z ∷ [])))) (is_tail_front (mark line.goes_on ∷ (h.0 ++ b ∷ []))) (code_same x y z) (mark_front line.goes_on (h.0 ++ b ∷ []))) (
       ap (λ (t : Bool). mark t ∷ (h.0 ++ b ∷ [])) (sym goes_on),
       waits_more old b long ∙ ap (λ (t : Bool). text_of_line (old ++ b ∷ []) ++ waiting t) (sym waits),
-      began ∙ ap (λ (t : Bool). t || has_bytes (comes line.waits b)) h.2.2 ∙ sym (has_bytes-append (text_of_line old) (comes line.waits b)) ∙ ap has_bytes (sym (text_more old line.waits b long h.2.1)),
+      began ∙ ap (λ (t : Bool). t || has_bytes (bytes_added line.waits b)) h.2.2 ∙ sym (has_bytes-append (text_of_line old) (bytes_added line.waits b)) ∙ ap has_bytes (sym (text_more old line.waits b long h.2.1)),
     )
     code
-    (text ∙ ap (λ (m : List ℕ). take REPLY_TEXT_LIMIT (m ++ shown_more line.began (comes line.waits b))) h.1.text
-    ∙ ap (λ (t : Bool). take REPLY_TEXT_LIMIT (one_line_text (x ∷ (y ∷ (z ∷ more))) ++ shown_more t (comes line.waits b))) h.2.2
-    ∙ sym (text-byte x y z more b h.1.closed old (shown_more (has_bytes (text_of_line old)) (comes line.waits b)) other h.1.lines (shown_line_more old line.waits b long h.2.1))))
+    (text ∙ ap (λ (m : List ℕ). take REPLY_TEXT_LIMIT (m ++ shown_more line.began (bytes_added line.waits b))) h.1.text
+    ∙ ap (λ (t : Bool). take REPLY_TEXT_LIMIT (one_line_text (x ∷ (y ∷ (z ∷ more))) ++ shown_more t (bytes_added line.waits b))) h.2.2
+    ∙ sym (text-byte x y z more b h.1.closed old (shown_more (has_bytes (text_of_line old)) (bytes_added line.waits b)) other h.1.lines (shown_line_more old line.waits b long h.2.1))))
     bytes (text_long said line bytes stands) stands
 
 mark_other : (goes_on : Bool) → is_line_feed (mark goes_on) ≡ false

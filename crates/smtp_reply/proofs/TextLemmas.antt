@@ -7,7 +7,7 @@ use Rattle.std.specs.List.{flat_map}
 use Rattle.std.specs.Str.Lines.{strip_carriage_return}
 use Rattle.kumo_base.specs.declared.room.TheConstants.{REPLY_TEXT_LIMIT}
 use Rattle.smtp_reply.specs.Grammar.{lines_of, code_in, is_line_feed}
-use Rattle.smtp_reply.specs.Replies.{text_of_line, shown, shown_text, shown_line, shown_more, has_bytes, waiting, comes, one_line_text}
+use Rattle.smtp_reply.specs.Replies.{text_of_line, printable_of, shown_text, shown_line, shown_more, has_bytes, waiting, bytes_added, one_line_text}
 use Rattle.smtp_reply.proofs.LineLemmas.{lines-feed, lines-byte}
 use Rattle.smtp_reply.proofs.GrammarLemmas.{closed_again}
 use Rattle.smtp_reply.proofs.CutLemmas.{take_again}
@@ -55,7 +55,7 @@ text_more_by line waits b false other long e =
     ∙ append_assoc (text_of_line line) (waiting waits) (b ∷ [])
 
 -- a carriage return at the end of a text waits, and what waited stays
-pub text_more : (line : List ℕ) (waits : Bool) (b : ℕ) → 4 ≤ length line → drop 4 line ≡ text_of_line line ++ waiting waits → text_of_line (line ++ b ∷ []) ≡ text_of_line line ++ comes waits b
+pub text_more : (line : List ℕ) (waits : Bool) (b : ℕ) → 4 ≤ length line → drop 4 line ≡ text_of_line line ++ waiting waits → text_of_line (line ++ b ∷ []) ≡ text_of_line line ++ bytes_added waits b
 text_more line waits b long e = text_more_by line waits b (b == 13) refl long e
 
 waits_more_by : (line : List ℕ) (b : ℕ) (t : Bool) → (b == 13) ≡ t → 4 ≤ length line → drop 4 (line ++ b ∷ []) ≡ text_of_line (line ++ b ∷ []) ++ waiting t
@@ -71,12 +71,12 @@ waits_more line b long = waits_more_by line b (b == 13) refl long
 
 pub shown_join : (text more : List ℕ) → shown_text (text ++ more) ≡ shown_text text ++ shown_more (has_bytes text) more
 shown_join [] more = refl
-shown_join (b ∷ text) more = ap (λ (m : List ℕ). 32 ∷ (shown b ∷ m)) (map-append shown text more)
+shown_join (b ∷ text) more = ap (λ (m : List ℕ). 32 ∷ (printable_of b ∷ m)) (map-append printable_of text more)
 
 -- what is shown of a line with a byte more
 pub shown_line_more : (line : List ℕ) (waits : Bool) (b : ℕ) → 4 ≤ length line → drop 4 line ≡ text_of_line line ++ waiting waits
-    → shown_line (line ++ b ∷ []) ≡ shown_line line ++ shown_more (has_bytes (text_of_line line)) (comes waits b)
-shown_line_more line waits b long e = ap shown_text (text_more line waits b long e) ∙ shown_join (text_of_line line) (comes waits b)
+    → shown_line (line ++ b ∷ []) ≡ shown_line line ++ shown_more (has_bytes (text_of_line line)) (bytes_added waits b)
+shown_line_more line waits b long e = ap shown_text (text_more line waits b long e) ∙ shown_join (text_of_line line) (bytes_added waits b)
 
 pub has_bytes-append : (xs ys : List ℕ) → has_bytes (xs ++ ys) ≡ (has_bytes xs || has_bytes ys)
 has_bytes-append [] ys = refl

@@ -11,7 +11,7 @@ use Rattle.smtp_reply.specs.declared.reader.ReplyReader.{ReplyReader}
 use Rattle.smtp_reply.specs.declared.reader.TheConstants.{REPLY_LIMIT}
 use Rattle.smtp_reply.specs.ReplyText.{IsReplyText, digits_of, is_printable}
 use Rattle.smtp_reply.specs.Grammar.{is_reply, is_front, lines_of, code_in, is_first_digit, is_digit, is_code, is_code_front, are_reply_lines}
-use Rattle.smtp_reply.specs.Replies.{heard, heard_from, number_of, code_of, shown, shown_text, shown_line, text_of_line, one_line_text}
+use Rattle.smtp_reply.specs.Replies.{heard, heard_from, number_of, code_of, printable_of, shown_text, shown_line, text_of_line, one_line_text}
 use Rattle.smtp_reply.specs.Reading.{IsWhole, Reads, Tells, Keeps, digits_in, IsProperReply}
 use Rattle.smtp_reply.proofs.HeardLemmas.{answer_by}
 use Rattle.smtp_reply.proofs.FrontLemmas.{and_both, and_is, code_front_is_front, reply_is_no_front, true_not_false}
@@ -115,9 +115,9 @@ printable-take (suc n) (x ∷ xs) e =
     let both = and_both (is_printable x) (list_all is_printable xs) e in
     and_is (is_printable x) (list_all is_printable (take n xs)) both.0 (printable-take n xs both.1)
 
-printable-map : (text : List ℕ) → list_all is_printable (map shown text) ≡ true
+printable-map : (text : List ℕ) → list_all is_printable (map printable_of text) ≡ true
 printable-map [] = refl
-printable-map (b ∷ text) = and_is (is_printable (shown b)) (list_all is_printable (map shown text)) (printable_cond b (is_printable b) refl) (printable-map text)
+printable-map (b ∷ text) = and_is (is_printable (printable_of b)) (list_all is_printable (map printable_of text)) (printable_cond b (is_printable b) refl) (printable-map text)
 
 printable_text : (text : List ℕ) → list_all is_printable (shown_text text) ≡ true
 printable_text [] = refl
@@ -133,7 +133,7 @@ Begins text = (text ≡ []) ⊎ ((b : ℕ) × (more : List ℕ) × (text ≡ 32 
 
 begins_by : (text more : List ℕ) → Begins more → Begins (shown_text text ++ more)
 begins_by [] more h = h
-begins_by (b ∷ text) more h = inr (shown b, map shown text ++ more, refl)
+begins_by (b ∷ text) more h = inr (printable_of b, map printable_of text ++ more, refl)
 
 begins_lines : (lines : List (List ℕ)) → Begins (flat_map shown_line lines)
 begins_lines [] = inl refl

@@ -41,17 +41,17 @@ code_of reply = number_of (code_in reply)
 abbrev pub text_of_line : List ℕ → List ℕ
 text_of_line line = drop 4 (strip_carriage_return line)
 
-abbrev pub shown : ℕ → ℕ
-shown b = if is_printable b then b else 63
+abbrev pub printable_of : ℕ → ℕ
+printable_of b = if is_printable b then b else 63
 
 -- a blank and the text, where it is not empty
 abbrev pub shown_text : List ℕ → List ℕ
 shown_text [] = []
-shown_text (b ∷ text) = 32 ∷ map shown (b ∷ text)
+shown_text (b ∷ text) = 32 ∷ map printable_of (b ∷ text)
 
 -- what a text becomes with more of it: the blank stands before its first byte alone
 abbrev pub shown_more : Bool → List ℕ → List ℕ
-shown_more true text = map shown text
+shown_more true text = map printable_of text
 shown_more false text = shown_text text
 
 abbrev pub has_bytes : List ℕ → Bool
@@ -63,8 +63,8 @@ abbrev pub waiting : Bool → List ℕ
 waiting waits = if waits then 13 ∷ [] else []
 
 -- what a byte adds to a text: the carriage return that waited, and itself unless it must wait
-abbrev pub comes : Bool → ℕ → List ℕ
-comes waits b = waiting waits ++ (if b == 13 then [] else b ∷ [])
+abbrev pub bytes_added : Bool → ℕ → List ℕ
+bytes_added waits b = waiting waits ++ (if b == 13 then [] else b ∷ [])
 
 abbrev pub shown_line : List ℕ → List ℕ
 shown_line line = shown_text (text_of_line line)

@@ -4,7 +4,7 @@
 //! was made before the reply came, so that no byte of a reply takes memory; what does not fit is dropped. It refuses nothing:
 //! a byte that is not printable is kept as `?`.
 ghost use Rattle.std.specs.Prelude.{◌≡◌, ◌≤◌, ◌<◌, ◌==◌, ◌||◌, ◌∷◌, ◌++◌, ℕ, List, [], length, take};
-ghost use Rattle.smtp_reply.specs.Replies.{shown, shown_more, comes, has_bytes};
+ghost use Rattle.smtp_reply.specs.Replies.{printable_of, shown_more, bytes_added, has_bytes};
 
 use crate::place::LineText;
 use kumo_base::{REPLY_TEXT_LIMIT, Room, Text};
@@ -59,9 +59,9 @@ impl OneLine {
 
     /// Reads a byte of a line's text. A carriage return waits for the byte behind it.
     pub(crate) fn read_text(&mut self, line: LineText, byte: u8) -> LineText
-        ensures text { self.new ≡ take REPLY_TEXT_LIMIT (self.old ++ shown_more line.began (comes line.waits byte)) }
+        ensures text { self.new ≡ take REPLY_TEXT_LIMIT (self.old ++ shown_more line.began (bytes_added line.waits byte)) }
         ensures goes_on { result.goes_on ≡ line.goes_on }
-        ensures began { result.began ≡ (line.began || has_bytes (comes line.waits byte)) }
+        ensures began { result.began ≡ (line.began || has_bytes (bytes_added line.waits byte)) }
         ensures waits { result.waits ≡ (byte == 13) }
     {
         let _count = self.count; // read, so that its bound is known
@@ -113,7 +113,7 @@ impl OneLine {
 
 /// The byte where it is printable, and else `?`.
 fn shown(byte: u8) -> u8
-    ensures value { result ≡ shown byte }
+    ensures value { result ≡ printable_of byte }
     ensures ascii { result < 128 }
 {
     if b' ' <= byte && byte <= b'~' {
