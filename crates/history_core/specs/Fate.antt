@@ -8,6 +8,6 @@ use Rattle.history_core.specs.History.{messages}
 abbrev pub fate_of : List Entry → ℕ → List Entry
 fate_of h id = filter (λ e. is_this (settled_in e.what) id) h
 
--- the accepted messages without a fate, in order
+-- the messages without a fate, in order
 abbrev pub pending : List Entry → List Message
 pending h = filter (λ m. length (fate_of h m.id) == 0) (messages h)

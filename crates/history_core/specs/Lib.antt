@@ -1,7 +1,15 @@
 pub mod Events
 pub mod History
 pub mod Fate
+pub mod Retry
+pub mod LiveOrders
 pub mod Connection
+pub mod Firing
+pub mod Limits
+pub mod Ready
 pub mod Candidates
 pub mod Openable
+pub mod Wake
+pub mod Sweep
+pub mod Proper
 pub mod Legal

@@ -7,6 +7,10 @@
 mod entry;
 mod history;
 pub mod laws;
+mod path;
+mod rule_match;
 
-pub use entry::{Cause, Entry, Event, Next};
+pub use entry::{Cause, Entry, Event, How, Next};
 pub use history::History;
+pub use path::Path;
+pub use rule_match::RuleMatch;

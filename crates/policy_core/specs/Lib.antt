@@ -8,5 +8,8 @@ pub mod Policy
 pub mod Site
 pub mod PathTables
 pub mod Rotation
+pub mod Delays
+pub mod LiveOrders
+pub mod Automation
 pub mod Words
 pub mod inside

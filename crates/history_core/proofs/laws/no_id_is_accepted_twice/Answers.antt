@@ -1,5 +1,0 @@
-use Rattle.history_core.proofs.Numbers.{messages-once}
-use Rattle.history_core.proofs.laws.no_id_is_accepted_twice.Goals as goal
-
-pub returns : goal.returns
-returns c = messages-once

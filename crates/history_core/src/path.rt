@@ -1,0 +1,26 @@
+//! A path: a source and a site. A message has one for each source that it may leave by.
+ghost use Rattle.std.specs.Prelude.{◌≡◌, IfOk};
+
+use kumo_base::{Memory, Text};
+use policy_core::Site;
+use std::alloc::Global;
+
+/// A way out: connections from a source to the mail exchangers of a site.
+#[derive(Drop)]
+pub struct Path {
+    /// The source's name.
+    pub source: Text,
+    pub site: Site,
+}
+
+impl Path {
+    /// An equal path.
+    pub fn copy(&self, alloc: Global) -> Result<Path, Memory>
+        ensures { IfOk result (λ copy. copy ≡ self.now) }
+    {
+        Ok(Path {
+            source: self.source.copy(alloc)?,
+            site: self.site.copy(alloc)?,
+        })
+    }
+}
