@@ -4,4 +4,5 @@
 
 mod connections;
 mod messages;
+mod openable;
 mod orders;
