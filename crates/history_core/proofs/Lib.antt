@@ -1,3 +1,4 @@
 pub mod Lists
 pub mod LegalLemmas
 pub mod OneMore
+pub mod Numbers

@@ -1,10 +1,11 @@
 -- What one more entry changes: one law for each list and each state of a history. At an entry whose event is known the
 -- right side computes. None needs a legal history.
-use Rattle.std.proofs.Common.{◌≡◌, ℕ, ◌+◌, List, [], ◌∷◌, ◌++◌, Bool, true, false, ◌||◌, None, eqb, fold, ap, ◌∙◌, sym, append_assoc, append-nil}
-use Rattle.std.specs.List.{list_any, find}
-use Rattle.std.specs.Option.{option_or}
+use Rattle.std.proofs.Common.{◌≡◌, ◌<◌, ℕ, ◌+◌, List, [], ◌∷◌, ◌++◌, Bool, true, false, not, ◌&&◌, ◌||◌, Option, Some, None, eqb, fold, filter, map, drop, length, option_map, arith, refl, ap, ◌∙◌, sym, append_assoc, append-nil}
+use Rattle.std.specs.List.{All, list_any, find}
+use Rattle.std.specs.Option.{option_or, option_and_then, option_to_list}
 use Rattle.std.proofs.lemmas.Bool.{or_left}
-use Rattle.std.proofs.lemmas.List.Elements.{filter-append, filter_map-append}
+use Rattle.std.proofs.lemmas.List.{drop-append-le, drop_all, length_push, map-append}
+use Rattle.std.proofs.lemmas.List.Elements.{All-append, All-cons, All-nil, All-weaker, filter-append, filter_map-append}
 use Rattle.std.proofs.lemmas.List.Folds.{find-append, list_any-append}
 use Rattle.std.proofs.lemmas.List.Sums.{fold-append, sum_by-append}
 use Rattle.queue_name.specs.declared.message.Message.{Message}
@@ -13,17 +14,18 @@ use Rattle.policy_core.specs.declared.sources.Pool.{Pool}
 use Rattle.history_core.specs.declared.entry.Entry.{Entry}
 use Rattle.history_core.specs.declared.path.Path.{Path}
 use Rattle.history_core.specs.declared.rule_match.RuleMatch.{RuleMatch}
-use Rattle.history_core.specs.Events.{message_in, promotion_in, is_stopped, settled_in, recovered_in, known_in, closing_in, resumed_in, is_this}
-use Rattle.history_core.specs.History.{along_from, along, messages, message_with, has_id, has_stopped, last_moment, Promoted, promoted_at, promotions, with_path, paths}
+use Rattle.history_core.specs.Events.{message_in, Promotion, promotion_in, is_stopped, settled_in, taken_in, resumed_in, is_this}
+use Rattle.history_core.specs.History.{along_from, along, messages, message_with, has_id, has_stopped, last_moment, Promoted, path_for, promoted_at, promotions, is_same_path, with_path, paths}
 use Rattle.history_core.specs.Fate.{fate_of}
 use Rattle.history_core.specs.Retry.{failures_after, failures, due_after, due}
 use Rattle.history_core.specs.LiveOrders.{GivenOrder, given_order_in, orders, is_resumed}
 use Rattle.history_core.specs.Connection.{Connection, connection_in, connections, connection_with, is_closed, used, busy_after, busy_with, idle_after, idle_since}
 use Rattle.history_core.specs.Firing.{matches_at, matches, fired_at, firings_of}
 use Rattle.history_core.specs.Limits.{begun_at, begun_moments}
-use Rattle.history_core.specs.Ready.{is_ready_after, is_ready}
-use Rattle.history_core.specs.Candidates.{source_taken, sources_taken, Passage, passage_at, passages}
+use Rattle.history_core.specs.Ready.{is_taken, standing_promotions, ready, is_ready_after, is_ready}
+use Rattle.history_core.specs.Candidates.{source_taken, sources_taken, passage_at, passages}
 use Rattle.history_core.specs.Openable.{rank_after, opened_rank}
+use Rattle.history_core.proofs.Lists.{filter_both, filter_turned, filter_where, filter_whole, map-filter}
 
 -- what items add up to
 along_from-more : {E A : Type 0} (add : List E → E → List A) (before xs : List E) (x : E)
@@ -138,3 +140,82 @@ matches-more policy h e = along-more (matches_at policy) h e
 
 pub firings_of-more : (all : List RuleMatch) (m : RuleMatch) → firings_of (all ++ m ∷ []) ≡ firings_of all ++ fired_at all m
 firings_of-more all m = along-more fired_at all m
+
+-- each promotion has its place in the history
+placed_if : (before : List Entry) (id : ℕ) (path : Message → Path) (o : Option Message)
+    → All (λ (p : Promoted). p.place ≡ length before) (option_to_list (option_map (λ m. record { place = length before; id = id; path = path m }) o))
+placed_if before id path None = All-nil (λ (p : Promoted). p.place ≡ length before)
+placed_if before id path (Some m) =
+    All-cons (λ (p : Promoted). p.place ≡ length before) (record { place = length before; id = id; path = path m }) [] refl (All-nil (λ (p : Promoted). p.place ≡ length before))
+
+placed_by : (policy : Policy) (before : List Entry) (o : Option Promotion)
+    → All (λ (p : Promoted). p.place ≡ length before) (option_to_list (option_and_then (λ p.
+    option_map (λ m. record { place = length before; id = p.id; path = path_for policy m p.source }) (message_with before p.id)) o))
+placed_by policy before None = All-nil (λ (p : Promoted). p.place ≡ length before)
+placed_by policy before (Some p) = placed_if before p.id (λ m. path_for policy m p.source) (message_with before p.id)
+
+placed_at : (policy : Policy) (before : List Entry) (e : Entry) → All (λ (p : Promoted). p.place ≡ length before) (promoted_at policy before e)
+placed_at policy before e = placed_by policy before (promotion_in e.what)
+
+placed_from : (policy : Policy) (before h : List Entry)
+    → All (λ (p : Promoted). p.place < length before + length h) (along_from (promoted_at policy) before h)
+placed_from policy before [] = All-nil (λ (p : Promoted). p.place < length before + 0)
+placed_from policy before (e ∷ h) =
+    All-append (λ (p : Promoted). p.place < length before + length (e ∷ h)) (promoted_at policy before e) (along_from (promoted_at policy) (before ++ e ∷ []) h)
+    (All-weaker (λ (p : Promoted). p.place ≡ length before) (λ p. p.place < length before + length (e ∷ h)) (λ p is. omega (arith, is)) (promoted_at policy before e) (placed_at policy before e))
+    (All-weaker (λ (p : Promoted). p.place < length (before ++ e ∷ []) + length h) (λ p. p.place < length before + length (e ∷ h))
+    (λ p is. omega (arith, is, length_push before e)) (along_from (promoted_at policy) (before ++ e ∷ []) h) (placed_from policy (before ++ e ∷ []) h))
+
+pub promotions-placed : (policy : Policy) (h : List Entry) → All (λ (p : Promoted). p.place < length h) (promotions policy h)
+promotions-placed policy h =
+    All-weaker (λ (p : Promoted). p.place < 0 + length h) (λ p. p.place < length h) (λ p within. omega (arith, within)) (promotions policy h) (placed_from policy [] h)
+
+-- an entry takes a message from its ready queue
+abbrev pub takes : Entry → ℕ → Bool
+takes e id = is_this (taken_in e.what) id
+
+taken_or : (b c : Bool) → not (b || (c || false)) ≡ (not b && not c)
+taken_or true c = refl
+taken_or false true = refl
+taken_or false false = refl
+
+is_taken-more : (h : List Entry) (e : Entry) (p : Promoted) → p.place < length h → not (is_taken (h ++ e ∷ []) p) ≡ (not (is_taken h p) && not (takes e p.id))
+is_taken-more h e p within =
+    ap (λ later. not (list_any (λ x. is_this (taken_in x.what) p.id) later)) (drop-append-le (p.place + 1) h (e ∷ []) (omega (arith, within)))
+    ∙ ap not (list_any-append (λ x. is_this (taken_in x.what) p.id) (drop (p.place + 1) h) (e ∷ []))
+    ∙ taken_or (is_taken h p) (takes e p.id)
+
+not_taken_yet : (h : List Entry) (e : Entry) (p : Promoted) → p.place ≡ length h → not (is_taken (h ++ e ∷ []) p) ≡ true
+not_taken_yet h e p is =
+    ap (λ later. not (list_any (λ x. is_this (taken_in x.what) p.id) later)) (drop_all (p.place + 1) (h ++ e ∷ []) (omega (arith, is, length_push h e)))
+
+-- those that the entry takes go, and the one that it promotes comes
+pub standing_promotions-more : (policy : Policy) (h : List Entry) (e : Entry)
+    → standing_promotions policy (h ++ e ∷ []) ≡ filter (λ (p : Promoted). not (takes e p.id)) (standing_promotions policy h) ++ promoted_at policy h e
+standing_promotions-more policy h e =
+    ap (filter (λ (p : Promoted). not (is_taken (h ++ e ∷ []) p))) (promotions-more policy h e)
+    ∙ filter-append (λ (p : Promoted). not (is_taken (h ++ e ∷ []) p)) (promotions policy h) (promoted_at policy h e)
+    ∙ ap (λ was. was ++ filter (λ (p : Promoted). not (is_taken (h ++ e ∷ []) p)) (promoted_at policy h e))
+    (filter_where (λ (p : Promoted). p.place < length h) (λ p. not (is_taken (h ++ e ∷ []) p)) (λ p. not (is_taken h p) && not (takes e p.id))
+    (λ p within. is_taken-more h e p within) (promotions policy h) (promotions-placed policy h)
+    ∙ sym (filter_both (λ (p : Promoted). not (takes e p.id)) (λ p. not (is_taken h p)) (promotions policy h)))
+    ∙ ap (λ new. filter (λ (p : Promoted). not (takes e p.id)) (standing_promotions policy h) ++ new)
+    (filter_whole (λ (p : Promoted). not (is_taken (h ++ e ∷ []) p)) (promoted_at policy h e)
+    (All-weaker (λ (p : Promoted). p.place ≡ length h) (λ p. not (is_taken (h ++ e ∷ []) p) ≡ true) (λ p is. not_taken_yet h e p is)
+    (promoted_at policy h e) (placed_at policy h e)))
+
+-- the ready messages among promotions, where they lead to the path
+abbrev pub ready_of : Path → List Promoted → List ℕ
+ready_of path ps = map (λ (p : Promoted). p.id) (filter (λ (p : Promoted). is_same_path p.path path) ps)
+
+pub ready-more : (policy : Policy) (h : List Entry) (e : Entry) (path : Path)
+    → ready policy (h ++ e ∷ []) path ≡ filter (λ id. not (takes e id)) (ready policy h path) ++ ready_of path (promoted_at policy h e)
+ready-more policy h e path =
+    let kept = filter (λ (p : Promoted). not (takes e p.id)) (standing_promotions policy h) in
+    ap (ready_of path) (standing_promotions-more policy h e)
+    ∙ ap (map (λ (p : Promoted). p.id)) (filter-append (λ (p : Promoted). is_same_path p.path path) kept (promoted_at policy h e))
+    ∙ map-append (λ (p : Promoted). p.id) (filter (λ (p : Promoted). is_same_path p.path path) kept) (filter (λ (p : Promoted). is_same_path p.path path) (promoted_at policy h e))
+    ∙ ap (λ ps. map (λ (p : Promoted). p.id) ps ++ ready_of path (promoted_at policy h e))
+    (filter_turned (λ (p : Promoted). is_same_path p.path path) (λ p. not (takes e p.id)) (standing_promotions policy h))
+    ∙ ap (λ ids. ids ++ ready_of path (promoted_at policy h e))
+    (map-filter (λ (p : Promoted). p.id) (λ id. not (takes e id)) (filter (λ (p : Promoted). is_same_path p.path path) (standing_promotions policy h)))
