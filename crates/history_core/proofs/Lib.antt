@@ -2,3 +2,4 @@ pub mod Lists
 pub mod LegalLemmas
 pub mod OneMore
 pub mod Numbers
+pub mod Picked
