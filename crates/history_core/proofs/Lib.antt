@@ -3,3 +3,4 @@ pub mod LegalLemmas
 pub mod OneMore
 pub mod Numbers
 pub mod Picked
+pub mod Settling

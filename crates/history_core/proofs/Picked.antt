@@ -57,11 +57,11 @@ delays_none delay id source never (Some m) is = never m (same_Some _ _ is)
 
 -- the message that is promoted next, and its source
 pub record PromotedNext (policy : Policy) (h : List Entry) (t id : ℕ) (source : List ℕ) : Type 0 where
-  message : Message
-  waits : Contains (pending h) message
-  promotable : is_promotable policy h t message ≡ true
-  same : message.id ≡ id
-  picked : pick_for policy h t message ≡ Some source
+  pub message : Message
+  pub waits : Contains (pending h) message
+  pub promotable : is_promotable policy h t message ≡ true
+  pub same : message.id ≡ id
+  pub picked : pick_for policy h t message ≡ Some source
 
 by_pick : (of id : ℕ) (source : List ℕ) (o : Option (List ℕ)) → option_map (promoted of) o ≡ Some (promoted id source) → (of ≡ id) × (o ≡ Some source)
 by_pick of id source None is = absurd cc
@@ -109,11 +109,11 @@ delayable_there policy h t m is =
 
 -- what holds where a connection is to attempt a message
 pub record Works (policy : Policy) (h : List Entry) (t : ℕ) (p : Path) (c : Connection) (id : ℕ) : Type 0 where
-  unspent : leb (limits policy h t p).deliveries (used h c.number) ≡ false
-  within : ltb (limits policy h t p).connection_limit (length (open_connections h (text_of p))) ≡ false
-  running : is_halted policy h t p ≡ false
-  admitted : admits_beginning policy h t p ≡ true
-  first : first_free policy h t p ≡ Some id
+  pub unspent : leb (limits policy h t p).deliveries (used h c.number) ≡ false
+  pub within : ltb (limits policy h t p).connection_limit (length (open_connections h (text_of p))) ≡ false
+  pub running : is_halted policy h t p ≡ false
+  pub admitted : admits_beginning policy h t p ≡ true
+  pub first : first_free policy h t p ≡ Some id
 
 first_work : (o : Option ℕ) (id : ℕ) → first_or_empty o ≡ work id → o ≡ Some id
 first_work None id is = absurd cc
@@ -140,11 +140,11 @@ verdict_works policy h t p c id is =
 
 -- a connection that is to attempt a message was opened, its path has a name, and all this holds
 pub record AtWork (policy : Policy) (h : List Entry) (t conn id : ℕ) : Type 0 where
-  connection : Connection
-  path : Path
-  opened : connection_with h conn ≡ Some connection
-  named : path_named policy h connection.path ≡ Some path
-  works : Works policy h t path connection id
+  pub connection : Connection
+  pub path : Path
+  pub opened : connection_with h conn ≡ Some connection
+  pub named : path_named policy h connection.path ≡ Some path
+  pub works : Works policy h t path connection id
 
 on_path : (policy : Policy) (h : List Entry) (t conn id : ℕ) (c : Connection) (o : Option Path) → connection_with h conn ≡ Some c → path_named policy h c.path ≡ o
     → option_map (λ p. verdict_on policy h t p c) o ≡ Some (work id) → AtWork policy h t conn id
