@@ -3,7 +3,7 @@ use Rattle.std.proofs.Common.{◌≡◌, ◌≤◌, ◌⊎◌, inl, inr, ⊎_eli
 use Rattle.std.specs.List.{Contains, list_any}
 use Rattle.std.specs.Option.{option_and_then, option_to_list, is_some}
 use Rattle.std.specs.Bool.{IsTrue}
-use Rattle.std.proofs.lemmas.Bool.{and_from, and_parts, both_ways, cases_Bool, eq-eqb, eqb-false, eqb-true, false≢true, not-true, not_from_false, or_cases, or_left, or_right}
+use Rattle.std.proofs.lemmas.Bool.{and_from, and_parts, both_ways, cases_Bool, cases_eq, eq-eqb, eqb-false, eqb-true, false≢true, not-true, not_from_false, or_cases, or_left, or_right}
 use Rattle.std.proofs.lemmas.List.Elements.{Contains-append_cases}
 use Rattle.std.proofs.lemmas.Option.{same_Some}
 use Rattle.queue_name.specs.declared.message.Message.{Message}
@@ -16,7 +16,7 @@ use Rattle.history_core.specs.declared.entry.Next.{Next}
 use Rattle.history_core.specs.declared.entry.How.{How}
 use Rattle.history_core.specs.declared.path.Path.{Path}
 use Rattle.history_core.specs.Events.{is_final, settled_in, taken_in, is_this}
-use Rattle.history_core.specs.History.{Promoted, promoted_at, message_with, path_for}
+use Rattle.history_core.specs.History.{Promoted, promoted_at, messages, message_with, path_for}
 use Rattle.history_core.specs.Fate.{fate_of, pending}
 use Rattle.history_core.specs.LiveOrders.{bounced_by}
 use Rattle.history_core.specs.Retry.{is_aged, due}
@@ -25,7 +25,7 @@ use Rattle.history_core.specs.Firing.{is_free}
 use Rattle.history_core.specs.Ready.{is_ready_after, is_ready, standing_promotions, ready, is_free_id}
 use Rattle.history_core.specs.Candidates.{is_resolvable, is_promotable, pick_for}
 use Rattle.history_core.specs.Legal.{Row, MayFollow, IsLegal}
-use Rattle.history_core.proofs.Lists.{Passing, any_there, there_any, there_none, there_cases, filter_there}
+use Rattle.history_core.proofs.Lists.{Passing, any_there, there_any, there_none, there_cases, there_filter, filter_there}
 use Rattle.history_core.proofs.LegalLemmas.{IsLegal-induction, IsLegal-push}
 use Rattle.history_core.proofs.OneMore.{takes, fate_of-more, busy_with-more, is_ready-more, connections-kept, standing_promotions-more}
 use Rattle.history_core.proofs.Picked.{AtWork, at_work, first_there, pending_there, pending_found, ready_there, delayable_there, swept_promotion}
@@ -345,3 +345,24 @@ busy_with-alone policy h legal conn other id is was = (settling policy h legal).
 -- a ready message has no fate
 pub is_ready-pending : (policy : Policy) (h : List Entry) → IsLegal policy h → (id : ℕ) → is_ready h id ≡ true → fate_of h id ≡ []
 is_ready-pending policy h legal id is = (settling policy h legal).waiting id is
+
+pub ready-pending : (policy : Policy) (h : List Entry) → IsLegal policy h → (path : Path) (id : ℕ) → Contains (ready policy h path) id → fate_of h id ≡ []
+ready-pending policy h legal path id there = is_ready-pending policy h legal id (ready_is policy h legal path id there)
+
+one_of : (n : ℕ) → n ≤ 1 → (n ≡ 0 → ⊥) → n ≡ 1
+one_of n few some = ⊎_elim (λ none. absurd (some none)) (λ one. omega (arith, one, few)) (by (cases_eq n 0))
+  where
+    by : (n ≡ 0) ⊎ (n ≡ 0 → ⊥) → (n ≡ 0) ⊎ (1 ≤ n)
+    by (inl none) = inl none
+    by (inr more) = inr (omega (arith, more))
+
+-- a message is pending, or has one fate
+pub pending_or_once : (policy : Policy) (h : List Entry) → IsLegal policy h → (m : Message) → Contains (messages h) m → Contains (pending h) m ⊎ (length (fate_of h m.id) ≡ 1)
+pending_or_once policy h legal m there =
+    ⊎_elim
+    (λ none. inl (there_filter (λ m. eqb (length (fate_of h m.id)) 0) (messages h) m there none))
+    (λ some. inr (one_of (length (fate_of h m.id)) (fate_of-once policy h legal m.id) (eqb-false (length (fate_of h m.id)) 0 some)))
+    (cases_Bool (eqb (length (fate_of h m.id)) 0))
+
+pub pending-none : (policy : Policy) (h : List Entry) → IsLegal policy h → (m : Message) → Contains (pending h) m → fate_of h m.id ≡ []
+pending-none policy h legal m there = (pending_there h m there).1

@@ -1,11 +1,69 @@
 //! Laws of legal histories. Each function does nothing: its contract is the law, and the check proves it.
-ghost use Rattle.std.specs.Prelude.{◌≡◌, List, [], ◌∷◌, ◌++◌};
+ghost use Rattle.std.specs.Prelude.{◌≡◌, ◌≤◌, ◌<◌, ◌+◌, ◌⊎◌, ℕ, List, [], ◌∷◌, ◌++◌, Some, length, filter, slice_index_or, IsTrue};
+ghost use Rattle.std.specs.List.{Contains};
+ghost use Rattle.queue_name.specs.declared.message.Message.{Message};
 ghost use Rattle.policy_core.specs.Policy.{Policy};
 ghost use Rattle.history_core.specs.declared.entry.Entry.{Entry};
+ghost use Rattle.history_core.specs.declared.path.Path.{Path};
+ghost use Rattle.history_core.specs.Connection.{Connection, busy_with, connections};
+ghost use Rattle.history_core.specs.Fate.{fate_of, pending};
+ghost use Rattle.history_core.specs.History.{has_id, messages};
 ghost use Rattle.history_core.specs.Legal.{IsLegal, MayFollow};
+ghost use Rattle.history_core.specs.Ready.{is_ready, ready};
 
 /// A legal history stays legal with one more entry that may follow it.
 pub fn legal_history_grows()
     ensures { (policy : Policy) (h : List Entry) (e : Entry) → IsLegal policy h → MayFollow policy h e
         → IsLegal policy (h ++ e ∷ []) }
+{}
+
+/// What a legal history begins with is legal.
+pub fn front_of_legal_history_is_legal()
+    ensures { (policy : Policy) (h : List Entry) (later : List Entry) → IsLegal policy (h ++ later) → IsLegal policy h }
+{}
+
+/// In a legal history no two messages that were recovered or accepted share an id.
+pub fn no_id_comes_twice()
+    ensures { (policy : Policy) (h : List Entry) → IsLegal policy h → (id : ℕ)
+        → length (filter (has_id id) (messages h)) ≤ 1 }
+{}
+
+/// In a legal history each message has at most one fate: no message is settled twice.
+pub fn message_has_one_fate_at_most()
+    ensures { (policy : Policy) (h : List Entry) → IsLegal policy h → (id : ℕ) → length (fate_of h id) ≤ 1 }
+{}
+
+/// In a legal history each message is pending or has one fate, and not both.
+pub fn message_is_pending_or_has_one_fate()
+    ensures one_of_both { (policy : Policy) (h : List Entry) → IsLegal policy h → (m : Message) → Contains (messages h) m
+        → Contains (pending h) m ⊎ (length (fate_of h m.id) ≡ 1) }
+    ensures not_both { (policy : Policy) (h : List Entry) → IsLegal policy h → (m : Message) → Contains (pending h) m
+        → fate_of h m.id ≡ [] }
+{}
+
+/// In a legal history a message that has its fate is not attempted: what a connection is busy with has none.
+pub fn attempted_message_has_no_fate()
+    ensures { (policy : Policy) (h : List Entry) → IsLegal policy h → (conn : ℕ) (id : ℕ) → busy_with h conn ≡ Some id
+        → fate_of h id ≡ [] }
+{}
+
+/// In a legal history no message is attempted on two connections at a time.
+pub fn message_is_attempted_on_one_connection()
+    ensures { (policy : Policy) (h : List Entry) → IsLegal policy h → (conn : ℕ) (other : ℕ) (id : ℕ)
+        → busy_with h conn ≡ Some id → busy_with h other ≡ Some id → conn ≡ other }
+{}
+
+/// In a legal history a message that has its fate is not ready, and in no ready queue.
+pub fn ready_message_has_no_fate()
+    ensures anywhere { (policy : Policy) (h : List Entry) → IsLegal policy h → (id : ℕ) → IsTrue (is_ready h id)
+        → fate_of h id ≡ [] }
+    ensures on_its_path { (policy : Policy) (h : List Entry) → IsLegal policy h → (path : Path) (id : ℕ)
+        → Contains (ready policy h path) id → fate_of h id ≡ [] }
+{}
+
+/// In a legal history connections have the numbers 1, 2, 3 and so on in the order of their opening, so no number is
+/// opened twice.
+pub fn connections_are_numbered_from_one()
+    ensures { (policy : Policy) (h : List Entry) → IsLegal policy h → (k : ℕ) (d : Connection)
+        → k < length (connections h) → (slice_index_or (connections h) k d).number ≡ k + 1 }
 {}
