@@ -4,3 +4,4 @@ pub mod OneMore
 pub mod Numbers
 pub mod Picked
 pub mod Settling
+pub mod AllowedLemmas

@@ -26,7 +26,7 @@ use Rattle.history_core.specs.Ready.{is_ready_after, is_ready, standing_promotio
 use Rattle.history_core.specs.Candidates.{is_resolvable, is_promotable, pick_for}
 use Rattle.history_core.specs.Legal.{Row, MayFollow, IsLegal}
 use Rattle.history_core.proofs.Lists.{Passing, any_there, there_any, there_none, there_cases, there_filter, filter_there}
-use Rattle.history_core.proofs.LegalLemmas.{IsLegal-induction, IsLegal-push}
+use Rattle.history_core.proofs.LegalLemmas.{IsLegal-along, IsLegal-induction}
 use Rattle.history_core.proofs.OneMore.{takes, fate_of-more, busy_with-more, is_ready-more, connections-kept, standing_promotions-more}
 use Rattle.history_core.proofs.Picked.{AtWork, at_work, first_there, pending_there, pending_found, ready_there, delayable_there, swept_promotion}
 
@@ -317,19 +317,11 @@ does policy h t who (Delayed of next) legal k row = does_delay policy h t who of
 does policy h t who (Resolved of how) legal k row = does_resolve policy h t who of how k row
 does policy h t who _ legal k row = quiet h _ (λ id. refl) (λ conn was. refl) (λ id was. refl)
 
--- a legal history with what is known of its messages
-record Known (policy : Policy) (h : List Entry) : Type 0 where
-  legal : IsLegal policy h
-  settling : Settling h
-
 settling : (policy : Policy) (h : List Entry) → IsLegal policy h → Settling h
 settling policy h legal =
-    (IsLegal-induction policy (Known policy) (record { legal = tt; settling = none_yet })
-    (λ h e k follows. record {
-      legal = IsLegal-push policy h e k.legal follows;
-      settling = settling_then h e k.settling (does policy h e.at e.who e.what k.legal k.settling follows.row);
-    })
-    h legal).settling
+    IsLegal-along policy Settling none_yet
+    (λ h e before k follows. settling_then h e k (does policy h e.at e.who e.what before k follows.row))
+    h legal
 
 -- each message has one fate at most
 pub fate_of-once : (policy : Policy) (h : List Entry) → IsLegal policy h → (id : ℕ) → length (fate_of h id) ≤ 1

@@ -13,3 +13,4 @@ pub mod Wake
 pub mod Sweep
 pub mod Proper
 pub mod Legal
+pub mod Allowed

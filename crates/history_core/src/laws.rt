@@ -4,7 +4,9 @@ ghost use Rattle.std.specs.List.{Contains};
 ghost use Rattle.queue_name.specs.declared.message.Message.{Message};
 ghost use Rattle.policy_core.specs.Policy.{Policy};
 ghost use Rattle.history_core.specs.declared.entry.Entry.{Entry};
+ghost use Rattle.history_core.specs.declared.entry.Event.TheVariants.{Opened, Begun};
 ghost use Rattle.history_core.specs.declared.path.Path.{Path};
+ghost use Rattle.history_core.specs.Allowed.{AllowsAttempt, AllowsOpening};
 ghost use Rattle.history_core.specs.Connection.{Connection, busy_with, connections};
 ghost use Rattle.history_core.specs.Fate.{fate_of, pending};
 ghost use Rattle.history_core.specs.History.{has_id, messages};
@@ -66,4 +68,16 @@ pub fn ready_message_has_no_fate()
 pub fn connections_are_numbered_from_one()
     ensures { (policy : Policy) (h : List Entry) → IsLegal policy h → (k : ℕ) (d : Connection)
         → k < length (connections h) → (slice_index_or (connections h) k d).number ≡ k + 1 }
+{}
+
+/// In a legal history a connection was opened only where its path allowed it.
+pub fn an_opening_was_allowed()
+    ensures { (policy : Policy) (h : List Entry) (e : Entry) (later : List Entry) → IsLegal policy (h ++ e ∷ later)
+        → (conn : ℕ) (path : List ℕ) (key : ℕ) → e.what ≡ Opened conn path key → AllowsOpening policy h e.at path key }
+{}
+
+/// In a legal history an attempt began only where its connection, its path and its message allowed it.
+pub fn an_attempt_was_allowed()
+    ensures { (policy : Policy) (h : List Entry) (e : Entry) (later : List Entry) → IsLegal policy (h ++ e ∷ later)
+        → (conn : ℕ) (id : ℕ) (key : ℕ) → e.what ≡ Begun conn id key → AllowsAttempt policy h e.at conn id key }
 {}
