@@ -5,3 +5,4 @@ pub mod Numbers
 pub mod Picked
 pub mod Settling
 pub mod AllowedLemmas
+pub mod RateLemmas

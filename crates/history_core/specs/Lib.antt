@@ -14,3 +14,4 @@ pub mod Sweep
 pub mod Proper
 pub mod Legal
 pub mod Allowed
+pub mod KeyRates
