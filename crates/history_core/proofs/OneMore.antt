@@ -1,6 +1,6 @@
 -- What one more entry changes: one law for each list and each state of a history. At an entry whose event is known the
 -- right side computes. None needs a legal history.
-use Rattle.std.proofs.Common.{◌≡◌, ◌<◌, ℕ, ◌+◌, List, [], ◌∷◌, ◌++◌, Bool, true, false, not, ◌&&◌, ◌||◌, Option, Some, None, eqb, fold, filter, map, drop, length, option_map, arith, refl, ap, ◌∙◌, sym, append_assoc, append-nil}
+use Rattle.std.proofs.Common.{◌≡◌, ◌<◌, ℕ, ◌+◌, List, [], ◌∷◌, ◌++◌, Bool, true, false, not, ◌&&◌, ◌||◌, Option, Some, None, eqb, bytes_eq, fold, filter, map, drop, length, option_map, arith, refl, ap, ◌∙◌, sym, append_assoc, append-nil}
 use Rattle.std.specs.List.{All, list_any, find}
 use Rattle.std.specs.Option.{option_or, option_and_then, option_to_list}
 use Rattle.std.proofs.lemmas.Bool.{or_left}
@@ -21,7 +21,7 @@ use Rattle.history_core.specs.Retry.{failures_after, failures, due_after, due}
 use Rattle.history_core.specs.LiveOrders.{GivenOrder, given_order_in, orders, is_resumed}
 use Rattle.history_core.specs.Connection.{Connection, connection_in, connections, connection_with, is_closed, used, busy_after, busy_with, idle_after, idle_since}
 use Rattle.history_core.specs.Firing.{matches_at, matches, fired_at, firings_of}
-use Rattle.history_core.specs.Limits.{begun_at, begun_moments}
+use Rattle.history_core.specs.Limits.{opened_moments, begun_at, begun_moments}
 use Rattle.history_core.specs.Ready.{is_taken, standing_promotions, ready, is_ready_after, is_ready}
 use Rattle.history_core.specs.Candidates.{source_taken, sources_taken, passage_at, passages}
 use Rattle.history_core.specs.Openable.{rank_after, opened_rank}
@@ -130,6 +130,14 @@ sources_taken-more policy pool h e = along-more (λ before x. source_taken polic
 pub begun_moments-more : (h : List Entry) (e : Entry) (path : List ℕ) (key : ℕ)
     → begun_moments (h ++ e ∷ []) path key ≡ begun_moments h path key ++ begun_at path key h e
 begun_moments-more h e path key = along-more (begun_at path key) h e
+
+pub opened_moments-more : (h : List Entry) (e : Entry) (path : List ℕ) (key : ℕ)
+    → opened_moments (h ++ e ∷ []) path key ≡ opened_moments h path key ++ opened_moments (e ∷ []) path key
+opened_moments-more h e path key =
+    let counts = λ (c : Connection). bytes_eq c.path path && eqb c.key key in
+    ap (λ cs. map (λ (c : Connection). c.at) (filter counts cs)) (connections-more h e)
+    ∙ ap (map (λ (c : Connection). c.at)) (filter-append counts (connections h) (connections (e ∷ [])))
+    ∙ map-append (λ (c : Connection). c.at) (filter counts (connections h)) (filter counts (connections (e ∷ [])))
 
 pub passages-more : (h : List Entry) (e : Entry) (path : List ℕ) → passages (h ++ e ∷ []) path ≡ passages h path ++ passage_at path h e
 passages-more h e path = along-more (passage_at path) h e

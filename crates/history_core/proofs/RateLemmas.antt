@@ -29,7 +29,7 @@ use Rattle.history_core.specs.Allowed.{KeepsRate, AllowsOpening, AllowsAttempt}
 use Rattle.history_core.specs.KeyRates.{rate_under, message_rate_of_key, connection_rate_of_key, IsOnlyPath}
 use Rattle.history_core.proofs.Lists.{Passing, there_none, there_first, there_later, there_cases, filter_there, find_none, find_there}
 use Rattle.history_core.proofs.LegalLemmas.{IsLegal-along}
-use Rattle.history_core.proofs.OneMore.{paths-more, connections-more, begun_moments-more}
+use Rattle.history_core.proofs.OneMore.{paths-more, opened_moments-more, begun_moments-more}
 use Rattle.history_core.proofs.AllowedLemmas.{opening, attempt, named_text}
 
 -- paths come at the end alone
@@ -247,3 +247,95 @@ pub attempts_conform : (policy : Policy) (h : List Entry) → IsLegal policy h �
     → message_rate_of_key (base_of policy p.site p.source) key ≡ Some s → Conforms s (begun_moments h text key)
 attempts_conform policy h legal =
     (IsLegal-along policy (KeepsRates policy) (none_yet policy) (λ h e before k follows. rates_then policy h e before k follows) h legal).named
+
+-- what one entry adds to the openings of a text and a key
+record AddsOpening (policy : Policy) (h : List Entry) (e : Entry) (text : List ℕ) (key : ℕ) : Type 0 where
+  path : Path
+  there : Contains (paths policy h) path
+  has_text : text_of path ≡ text
+  moment : opened_moments (e ∷ []) text key ≡ e.at ∷ []
+  keyed : key ≡ (limits policy h e.at path).connection_key
+  rate : KeepsRate (limits policy h e.at path).connection_rate (opened_moments h text key ++ e.at ∷ [])
+
+adds_opened : (policy : Policy) (h : List Entry) (at who conn : ℕ) (of : List ℕ) (under : ℕ) (text : List ℕ) (key : ℕ) → AllowsOpening policy h at of under
+    → (b : Bool) → (bytes_eq of text && eqb under key) ≡ b
+    → (opened_moments (record { at = at; who = who; what = Opened conn of under } ∷ []) text key ≡ [])
+    ⊎ AddsOpening policy h (record { at = at; who = who; what = Opened conn of under }) text key
+adds_opened policy h at who conn of under text key allows false is =
+    inl (ap (λ b. map (λ (c : Connection). c.at) (cond b (record { number = conn; path = of; who = who; at = at; key = under } ∷ []) [])) is)
+adds_opened policy h at who conn of under text key allows true is =
+    let (passes, same) = and_parts (bytes_eq of text) (eqb under key) is in
+    let it : under ≡ key = eqb-true under key same in
+    let text_is : of ≡ text = (bytes_eq-Decides of text).0 passes in
+    inr (record {
+      path = allows.path;
+      there = allows.is_path;
+      has_text = sym allows.has_text ∙ text_is;
+      moment = ap (λ b. map (λ (c : Connection). c.at) (cond b (record { number = conn; path = of; who = who; at = at; key = under } ∷ []) [])) is;
+      keyed = sym it ∙ allows.has_key;
+      rate = subst (λ k. KeepsRate (limits policy h at allows.path).connection_rate (opened_moments h text k ++ at ∷ [])) it
+          (subst (λ x. KeepsRate (limits policy h at allows.path).connection_rate (opened_moments h x under ++ at ∷ [])) text_is allows.rate);
+    })
+
+opens : (policy : Policy) (h : List Entry) → IsLegal policy h → (at who : ℕ) (e : Event) (text : List ℕ) (key : ℕ) → MayFollow policy h (record { at = at; who = who; what = e })
+    → (opened_moments (record { at = at; who = who; what = e } ∷ []) text key ≡ []) ⊎ AddsOpening policy h (record { at = at; who = who; what = e }) text key
+opens policy h legal at who (Opened conn of under) text key follows =
+    adds_opened policy h at who conn of under text key (opening policy h at who conn of under legal follows.proper.moment follows.row)
+    (bytes_eq of text && eqb under key) refl
+opens policy h legal at who _ text key follows = inl refl
+
+-- what has no name was never opened; where one path alone has a text, its openings keep its rates
+record KeepsOpenings (policy : Policy) (h : List Entry) : Type 0 where
+  unnamed : (text : List ℕ) (key : ℕ) → path_named policy h text ≡ None → opened_moments h text key ≡ []
+  named : (text : List ℕ) (p : Path) → IsOnlyPath policy h text p → (key : ℕ) (s : Throttle)
+      → connection_rate_of_key (base_of policy p.site p.source) key ≡ Some s → Conforms s (opened_moments h text key)
+
+module _ (policy : Policy) (h : List Entry) (e : Entry) (legal : IsLegal policy h) (k : KeepsOpenings policy h) (follows : MayFollow policy h e) where
+  still_unopened : (text : List ℕ) (key : ℕ) → path_named policy h text ≡ None → opened_moments (h ++ e ∷ []) text key ≡ []
+  still_unopened text key none =
+      opened_moments-more h e text key ∙ ap (λ xs. xs ++ opened_moments (e ∷ []) text key) (k.unnamed text key none)
+      ∙ ⊎_elim
+      (λ nothing. nothing)
+      (λ one. absurd (find_none (λ p. bytes_eq (text_of p) text) (paths policy h) one.path none one.there ((bytes_eq-Decides (text_of one.path) text).1 one.has_text)))
+      (opens policy h legal e.at e.who e.what text key follows)
+
+  unopened_before : (text : List ℕ) (o : Option Path) → path_named policy h text ≡ o → path_named policy (h ++ e ∷ []) text ≡ None → path_named policy h text ≡ None
+  unopened_before text None is none = is
+  unopened_before text (Some p) is none = absurd (none_some policy (h ++ e ∷ []) text p none (path_named-kept policy h e text p is))
+
+  opening_conforms : (text : List ℕ) (p : Path) (key : ℕ) (s : Throttle) → IsOnlyPath policy h text p
+      → connection_rate_of_key (base_of policy p.site p.source) key ≡ Some s → AddsOpening policy h e text key → Conforms s (opened_moments (h ++ e ∷ []) text key)
+  opening_conforms text p key s only stands one =
+      let same : one.path ≡ p = only.1 one.path one.there one.has_text in
+      let rate : (limits policy h e.at one.path).connection_rate ≡ Some s =
+          connection_key_stands (base_of policy one.path.site one.path.source) _ key s one.keyed
+          (subst (λ (q : Path). connection_rate_of_key (base_of policy q.site q.source) key ≡ Some s) (sym same) stands) in
+      subst (Conforms s) (sym (opened_moments-more h e text key ∙ ap (λ xs. opened_moments h text key ++ xs) one.moment))
+      (subst (λ r. KeepsRate r (opened_moments h text key ++ e.at ∷ [])) rate one.rate)
+
+  openings_still_conform : (text : List ℕ) (p : Path) (key : ℕ) (s : Throttle) → IsOnlyPath policy (h ++ e ∷ []) text p
+      → connection_rate_of_key (base_of policy p.site p.source) key ≡ Some s → (o : Option Path) → path_named policy h text ≡ o
+      → Conforms s (opened_moments (h ++ e ∷ []) text key)
+  openings_still_conform text p key s only stands None none = none_conforms s (opened_moments (h ++ e ∷ []) text key) (still_unopened text key none)
+  openings_still_conform text p key s only stands (Some q) was =
+      let same : q ≡ p = same_Some q p (sym (path_named-kept policy h e text q was) ∙ only.0) in
+      let before : IsOnlyPath policy h text p = (was ∙ ap Some same, λ r there is. only.1 r (paths-kept policy h e r there) is) in
+      ⊎_elim
+      (λ nothing. subst (Conforms s) (sym (opened_moments-more h e text key ∙ ap (λ xs. opened_moments h text key ++ xs) nothing ∙ append-nil (opened_moments h text key))) (k.named text p before key s stands))
+      (λ one. opening_conforms text p key s before stands one)
+      (opens policy h legal e.at e.who e.what text key follows)
+
+  openings_then : KeepsOpenings policy (h ++ e ∷ [])
+  openings_then = record {
+    unnamed = λ text key none. still_unopened text key (unopened_before text (path_named policy h text) refl none);
+    named = λ text p only key s stands. openings_still_conform text p key s only stands (path_named policy h text) refl;
+  }
+
+none_opened : (policy : Policy) → KeepsOpenings policy []
+none_opened policy = record { unnamed = λ text key none. refl; named = λ text p only. let is : path_named policy [] text ≡ Some p = only.0 in absurd cc }
+
+-- openings
+pub openings_conform : (policy : Policy) (h : List Entry) → IsLegal policy h → (text : List ℕ) (p : Path) → IsOnlyPath policy h text p → (key : ℕ) (s : Throttle)
+    → connection_rate_of_key (base_of policy p.site p.source) key ≡ Some s → Conforms s (opened_moments h text key)
+openings_conform policy h legal =
+    (IsLegal-along policy (KeepsOpenings policy) (none_opened policy) (λ h e before k follows. openings_then policy h e before k follows) h legal).named

@@ -2,6 +2,8 @@
 ghost use Rattle.std.specs.Prelude.{◌≡◌, ◌≤◌, ◌<◌, ◌+◌, ◌⊎◌, ℕ, List, [], ◌∷◌, ◌++◌, Some, length, filter, slice_index_or, IsTrue};
 ghost use Rattle.std.specs.List.{Contains};
 ghost use Rattle.queue_name.specs.declared.message.Message.{Message};
+ghost use Rattle.throttle_spec.specs.Throttle.{Throttle, Conforms};
+ghost use Rattle.policy_core.specs.PathTables.{base_of};
 ghost use Rattle.policy_core.specs.Policy.{Policy};
 ghost use Rattle.history_core.specs.declared.entry.Entry.{Entry};
 ghost use Rattle.history_core.specs.declared.entry.Event.TheVariants.{Opened, Begun};
@@ -9,8 +11,10 @@ ghost use Rattle.history_core.specs.declared.path.Path.{Path};
 ghost use Rattle.history_core.specs.Allowed.{AllowsAttempt, AllowsOpening};
 ghost use Rattle.history_core.specs.Connection.{Connection, busy_with, connections};
 ghost use Rattle.history_core.specs.Fate.{fate_of, pending};
-ghost use Rattle.history_core.specs.History.{has_id, messages};
+ghost use Rattle.history_core.specs.History.{has_id, messages, path_named};
+ghost use Rattle.history_core.specs.KeyRates.{IsOnlyPath, connection_rate_of_key, message_rate_of_key};
 ghost use Rattle.history_core.specs.Legal.{IsLegal, MayFollow};
+ghost use Rattle.history_core.specs.Limits.{begun_moments, opened_moments};
 ghost use Rattle.history_core.specs.Ready.{is_ready, ready};
 
 /// A legal history stays legal with one more entry that may follow it.
@@ -80,4 +84,19 @@ pub fn an_opening_was_allowed()
 pub fn an_attempt_was_allowed()
     ensures { (policy : Policy) (h : List Entry) (e : Entry) (later : List Entry) → IsLegal policy (h ++ e ∷ later)
         → (conn : ℕ) (id : ℕ) (key : ℕ) → e.what ≡ Begun conn id key → AllowsAttempt policy h e.at conn id key }
+{}
+
+/// Over a whole legal history the attempts on a path that began under a key keep the rate that the key stands for.
+pub fn attempts_keep_their_rates()
+    ensures { (policy : Policy) (h : List Entry) → IsLegal policy h → (text : List ℕ) (p : Path)
+        → path_named policy h text ≡ Some p → (key : ℕ) (s : Throttle)
+        → message_rate_of_key (base_of policy p.site p.source) key ≡ Some s → Conforms s (begun_moments h text key) }
+{}
+
+/// Over a whole legal history the openings of a path under a key keep the rate that the key stands for, where no other
+/// path of the history has its text.
+pub fn openings_keep_their_rates()
+    ensures { (policy : Policy) (h : List Entry) → IsLegal policy h → (text : List ℕ) (p : Path)
+        → IsOnlyPath policy h text p → (key : ℕ) (s : Throttle)
+        → connection_rate_of_key (base_of policy p.site p.source) key ≡ Some s → Conforms s (opened_moments h text key) }
 {}
