@@ -1,11 +1,11 @@
 -- What one more entry changes: one law for each list and each state of a history. At an entry whose event is known the
 -- right side computes. None needs a legal history.
-use Rattle.std.proofs.Common.{◌≡◌, ◌<◌, ℕ, ◌+◌, List, [], ◌∷◌, ◌++◌, Bool, true, false, not, ◌&&◌, ◌||◌, Option, Some, None, eqb, bytes_eq, fold, filter, map, drop, length, option_map, arith, refl, ap, ◌∙◌, sym, append_assoc, append-nil}
-use Rattle.std.specs.List.{All, list_any, find}
+use Rattle.std.proofs.Common.{◌≡◌, ◌<◌, ℕ, ◌+◌, List, [], ◌∷◌, ◌++◌, Bool, true, false, not, ◌&&◌, ◌||◌, Option, Some, None, cond, eqb, bytes_eq, fold, filter, map, drop, length, option_map, arith, refl, ap, ◌∙◌, sym, subst, append_assoc, append-nil}
+use Rattle.std.specs.List.{All, Contains, list_any, find}
 use Rattle.std.specs.Option.{option_or, option_and_then, option_to_list}
-use Rattle.std.proofs.lemmas.Bool.{or_left}
+use Rattle.std.proofs.lemmas.Bool.{and_left, ne_eqb, or_left}
 use Rattle.std.proofs.lemmas.List.{drop-append-le, drop_all, length_push, map-append}
-use Rattle.std.proofs.lemmas.List.Elements.{All-append, All-cons, All-nil, All-weaker, filter-append, filter_map-append}
+use Rattle.std.proofs.lemmas.List.Elements.{All-append, All-cons, All-nil, All-weaker, Contains-append_left, filter-append, filter_agree, filter_map-append}
 use Rattle.std.proofs.lemmas.List.Folds.{find-append, list_any-append}
 use Rattle.std.proofs.lemmas.List.Sums.{fold-append, sum_by-append}
 use Rattle.queue_name.specs.declared.message.Message.{Message}
@@ -15,15 +15,15 @@ use Rattle.history_core.specs.declared.entry.Entry.{Entry}
 use Rattle.history_core.specs.declared.path.Path.{Path}
 use Rattle.history_core.specs.declared.rule_match.RuleMatch.{RuleMatch}
 use Rattle.history_core.specs.Events.{message_in, Promotion, promotion_in, is_stopped, settled_in, taken_in, resumed_in, is_this}
-use Rattle.history_core.specs.History.{along_from, along, messages, message_with, has_id, has_stopped, last_moment, Promoted, path_for, promoted_at, promotions, is_same_path, with_path, paths}
-use Rattle.history_core.specs.Fate.{fate_of}
+use Rattle.history_core.specs.History.{along_from, along, messages, message_with, has_id, has_stopped, last_moment, Promoted, path_for, promoted_at, promotions, is_same_path, with_path, paths, path_named, text_of}
+use Rattle.history_core.specs.Fate.{fate_of, pending}
 use Rattle.history_core.specs.Retry.{failures_after, failures, due_after, due}
 use Rattle.history_core.specs.LiveOrders.{GivenOrder, given_order_in, orders, is_resumed}
 use Rattle.history_core.specs.Connection.{Connection, connection_in, connections, connection_with, is_closed, used, busy_after, busy_with, idle_after, idle_since}
-use Rattle.history_core.specs.Firing.{matches_at, matches, fired_at, firings_of}
+use Rattle.history_core.specs.Firing.{matches_at, matches, fired_at, firings_of, firings}
 use Rattle.history_core.specs.Limits.{opened_moments, begun_at, begun_moments}
 use Rattle.history_core.specs.Ready.{is_taken, standing_promotions, ready, is_ready_after, is_ready}
-use Rattle.history_core.specs.Candidates.{source_taken, sources_taken, passage_at, passages}
+use Rattle.history_core.specs.Candidates.{turned, source_taken, sources_taken, place_of, Passage, passage_at, passages, refused_at, last_refusal, run_after, refusals}
 use Rattle.history_core.specs.Openable.{rank_after, opened_rank}
 use Rattle.history_core.proofs.Lists.{filter_both, filter_turned, filter_where, filter_whole, map-filter}
 
@@ -66,6 +66,36 @@ last_moment-more h e = fold-append (λ was x. x.at) 0 h (e ∷ [])
 
 pub fate_of-more : (h : List Entry) (e : Entry) (id : ℕ) → fate_of (h ++ e ∷ []) id ≡ fate_of h id ++ fate_of (e ∷ []) id
 fate_of-more h e id = filter-append (λ x. is_this (settled_in x.what) id) h (e ∷ [])
+
+none_of_both : (xs ys : List Entry) → eqb (length (xs ++ ys)) 0 ≡ (eqb (length xs) 0 && eqb (length ys) 0)
+none_of_both [] ys = refl
+none_of_both (x ∷ xs) ys =
+    ne_eqb (length (x ∷ (xs ++ ys))) 0 (λ none. omega (arith, none))
+    ∙ sym (and_left (eqb (length (x ∷ xs)) 0) (eqb (length ys) 0) (ne_eqb (length (x ∷ xs)) 0 (λ none. omega (arith, none))))
+
+none_if : (e : Entry) (b : Bool) → eqb (length (cond b (e ∷ []) [])) 0 ≡ not b
+none_if e true = ne_eqb (length (e ∷ [])) 0 (λ none. omega (arith, none))
+none_if e false = refl
+
+-- whether a message has no fate
+abbrev pub lacks_fate : List Entry → Message → Bool
+lacks_fate h m = eqb (length (fate_of h m.id)) 0
+
+lacks_fate-more : (h : List Entry) (e : Entry) (m : Message) → lacks_fate (h ++ e ∷ []) m ≡ (lacks_fate h m && not (is_this (settled_in e.what) m.id))
+lacks_fate-more h e m =
+    ap (λ (xs : List Entry). eqb (length xs) 0) (fate_of-more h e m.id)
+    ∙ none_of_both (fate_of h m.id) (fate_of (e ∷ []) m.id)
+    ∙ ap (λ b. lacks_fate h m && b) (none_if e (is_this (settled_in e.what) m.id))
+
+-- those that the entry settles go, and one that comes is pending where no entry settled its id
+pub pending-more : (h : List Entry) (e : Entry)
+    → pending (h ++ e ∷ []) ≡ filter (λ m. not (is_this (settled_in e.what) m.id)) (pending h) ++ filter (lacks_fate (h ++ e ∷ [])) (messages (e ∷ []))
+pending-more h e =
+    ap (filter (lacks_fate (h ++ e ∷ []))) (messages-more h e)
+    ∙ filter-append (lacks_fate (h ++ e ∷ [])) (messages h) (messages (e ∷ []))
+    ∙ ap (λ ms. ms ++ filter (lacks_fate (h ++ e ∷ [])) (messages (e ∷ [])))
+    (filter_agree (lacks_fate (h ++ e ∷ [])) (λ m. lacks_fate h m && not (is_this (settled_in e.what) m.id)) (lacks_fate-more h e) (messages h)
+    ∙ sym (filter_both (λ m. not (is_this (settled_in e.what) m.id)) (lacks_fate h) (messages h)))
 
 pub failures-more : (h : List Entry) (e : Entry) (id : ℕ) → failures (h ++ e ∷ []) id ≡ failures_after id (failures h id) e.what
 failures-more h e id = fold-append (λ was x. failures_after id was x.what) 0 h (e ∷ [])
@@ -122,9 +152,47 @@ paths-more policy h e =
     ap (fold (λ seen (p : Promoted). with_path seen p.path) []) (promotions-more policy h e)
     ∙ fold-append (λ seen (p : Promoted). with_path seen p.path) [] (promotions policy h) (promoted_at policy h e)
 
+-- paths come at the end alone
+with_grows : (seen : List Path) (p : Path) (b : Bool) → (more : List Path) × (cond b seen (seen ++ p ∷ []) ≡ seen ++ more)
+with_grows seen p true = ([], sym (append-nil seen))
+with_grows seen p false = (p ∷ [], refl)
+
+fold_grows : (ps : List Promoted) (seen : List Path) → (more : List Path) × (fold (λ seen (p : Promoted). with_path seen p.path) seen ps ≡ seen ++ more)
+fold_grows [] seen = ([], sym (append-nil seen))
+fold_grows (p ∷ ps) seen =
+    let first = with_grows seen p.path (list_any (is_same_path p.path) seen) in
+    let rest = fold_grows ps (with_path seen p.path) in
+    (first.0 ++ rest.0, rest.1 ∙ ap (λ xs. xs ++ rest.0) first.1 ∙ append_assoc seen first.0 rest.0)
+
+paths_grow : (policy : Policy) (h : List Entry) (e : Entry) → (more : List Path) × (paths policy (h ++ e ∷ []) ≡ paths policy h ++ more)
+paths_grow policy h e =
+    let grown = fold_grows (promoted_at policy h e) (paths policy h) in
+    (grown.0, paths-more policy h e ∙ grown.1)
+
+-- a path that has a name keeps it
+pub path_named-kept : (policy : Policy) (h : List Entry) (e : Entry) (text : List ℕ) (p : Path) → path_named policy h text ≡ Some p
+    → path_named policy (h ++ e ∷ []) text ≡ Some p
+path_named-kept policy h e text p is =
+    let grown = paths_grow policy h e in
+    ap (find (λ p. bytes_eq (text_of p) text)) grown.1
+    ∙ find-append (λ p. bytes_eq (text_of p) text) (paths policy h) grown.0
+    ∙ ap (λ o. option_or o (find (λ p. bytes_eq (text_of p) text) grown.0)) is
+
+pub paths-kept : (policy : Policy) (h : List Entry) (e : Entry) (p : Path) → Contains (paths policy h) p → Contains (paths policy (h ++ e ∷ [])) p
+paths-kept policy h e p there =
+    let grown = paths_grow policy h e in
+    subst (λ ps. Contains ps p) (sym grown.1) (Contains-append_left (paths policy h) grown.0 p there)
+
+-- sources
 pub sources_taken-more : (policy : Policy) (pool : Pool) (h : List Entry) (e : Entry)
     → sources_taken policy pool (h ++ e ∷ []) ≡ sources_taken policy pool h ++ source_taken policy pool h (promotion_in e.what)
 sources_taken-more policy pool h e = along-more (λ before x. source_taken policy pool before (promotion_in x.what)) h e
+
+pub place_of-more : (policy : Policy) (pool : Pool) (h : List Entry) (e : Entry)
+    → place_of policy pool (h ++ e ∷ []) ≡ fold (turned pool) (place_of policy pool h) (source_taken policy pool h (promotion_in e.what))
+place_of-more policy pool h e =
+    ap (fold (turned pool) None) (sources_taken-more policy pool h e)
+    ∙ fold-append (turned pool) None (sources_taken policy pool h) (source_taken policy pool h (promotion_in e.what))
 
 -- what is counted for rates, and the openings and closings of a path
 pub begun_moments-more : (h : List Entry) (e : Entry) (path : List ℕ) (key : ℕ)
@@ -142,12 +210,28 @@ opened_moments-more h e path key =
 pub passages-more : (h : List Entry) (e : Entry) (path : List ℕ) → passages (h ++ e ∷ []) path ≡ passages h path ++ passage_at path h e
 passages-more h e path = along-more (passage_at path) h e
 
+pub last_refusal-more : (h : List Entry) (e : Entry) (path : List ℕ)
+    → last_refusal (h ++ e ∷ []) path ≡ fold (λ was (p : Passage). refused_at p.place p.cause) (last_refusal h path) (passage_at path h e)
+last_refusal-more h e path =
+    ap (fold (λ was (p : Passage). refused_at p.place p.cause) None) (passages-more h e path)
+    ∙ fold-append (λ was (p : Passage). refused_at p.place p.cause) None (passages h path) (passage_at path h e)
+
+pub refusals-more : (h : List Entry) (e : Entry) (path : List ℕ)
+    → refusals (h ++ e ∷ []) path ≡ fold (λ was (p : Passage). run_after was p.cause) (refusals h path) (passage_at path h e)
+refusals-more h e path =
+    ap (fold (λ was (p : Passage). run_after was p.cause) 0) (passages-more h e path)
+    ∙ fold-append (λ was (p : Passage). run_after was p.cause) 0 (passages h path) (passage_at path h e)
+
 -- automation
 pub matches-more : (policy : Policy) (h : List Entry) (e : Entry) → matches policy (h ++ e ∷ []) ≡ matches policy h ++ matches_at policy h e
 matches-more policy h e = along-more (matches_at policy) h e
 
 pub firings_of-more : (all : List RuleMatch) (m : RuleMatch) → firings_of (all ++ m ∷ []) ≡ firings_of all ++ fired_at all m
 firings_of-more all m = along-more fired_at all m
+
+pub firings-more : (policy : Policy) (h : List Entry) (e : Entry)
+    → firings policy (h ++ e ∷ []) ≡ firings policy h ++ along_from fired_at (matches policy h) (matches_at policy h e)
+firings-more policy h e = ap (along fired_at) (matches-more policy h e) ∙ along-append fired_at (matches policy h) (matches_at policy h e)
 
 -- each promotion has its place in the history
 placed_if : (before : List Entry) (id : ℕ) (path : Message → Path) (o : Option Message)

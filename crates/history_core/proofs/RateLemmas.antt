@@ -29,39 +29,8 @@ use Rattle.history_core.specs.Allowed.{KeepsRate, AllowsOpening, AllowsAttempt}
 use Rattle.history_core.specs.KeyRates.{rate_under, message_rate_of_key, connection_rate_of_key, IsOnlyPath}
 use Rattle.history_core.proofs.Lists.{Passing, there_none, there_first, there_later, there_cases, filter_there, find_none, find_there}
 use Rattle.history_core.proofs.LegalLemmas.{IsLegal-along}
-use Rattle.history_core.proofs.OneMore.{paths-more, opened_moments-more, begun_moments-more}
+use Rattle.history_core.proofs.OneMore.{path_named-kept, paths-kept, opened_moments-more, begun_moments-more}
 use Rattle.history_core.proofs.AllowedLemmas.{opening, attempt, named_text}
-
--- paths come at the end alone
-with_grows : (seen : List Path) (p : Path) (b : Bool) → (more : List Path) × (cond b seen (seen ++ p ∷ []) ≡ seen ++ more)
-with_grows seen p true = ([], sym (append-nil seen))
-with_grows seen p false = (p ∷ [], refl)
-
-fold_grows : (ps : List Promoted) (seen : List Path) → (more : List Path) × (fold (λ seen (p : Promoted). with_path seen p.path) seen ps ≡ seen ++ more)
-fold_grows [] seen = ([], sym (append-nil seen))
-fold_grows (p ∷ ps) seen =
-    let first = with_grows seen p.path (list_any (is_same_path p.path) seen) in
-    let rest = fold_grows ps (with_path seen p.path) in
-    (first.0 ++ rest.0, rest.1 ∙ ap (λ xs. xs ++ rest.0) first.1 ∙ append_assoc seen first.0 rest.0)
-
-paths_grow : (policy : Policy) (h : List Entry) (e : Entry) → (more : List Path) × (paths policy (h ++ e ∷ []) ≡ paths policy h ++ more)
-paths_grow policy h e =
-    let grown = fold_grows (promoted_at policy h e) (paths policy h) in
-    (grown.0, paths-more policy h e ∙ grown.1)
-
--- a path that has a name keeps it
-pub path_named-kept : (policy : Policy) (h : List Entry) (e : Entry) (text : List ℕ) (p : Path) → path_named policy h text ≡ Some p
-    → path_named policy (h ++ e ∷ []) text ≡ Some p
-path_named-kept policy h e text p is =
-    let grown = paths_grow policy h e in
-    ap (find (λ p. bytes_eq (text_of p) text)) grown.1
-    ∙ find-append (λ p. bytes_eq (text_of p) text) (paths policy h) grown.0
-    ∙ ap (λ o. option_or o (find (λ p. bytes_eq (text_of p) text) grown.0)) is
-
-pub paths-kept : (policy : Policy) (h : List Entry) (e : Entry) (p : Path) → Contains (paths policy h) p → Contains (paths policy (h ++ e ∷ [])) p
-paths-kept policy h e p there =
-    let grown = paths_grow policy h e in
-    subst (λ ps. Contains ps p) (sym grown.1) (Contains-append_left (paths policy h) grown.0 p there)
 
 -- the last of the rules that set an option gives both the rate and the key
 record SetsLast (option : Setting → Option Throttle) (rules : List (ℕ × Rule)) : Type 0 where

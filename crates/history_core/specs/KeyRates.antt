@@ -14,7 +14,8 @@ use Rattle.history_core.specs.History.{text_of, paths, path_named}
 
 -- key 0 stands for the rate of the path's tables, another one for what the rule of this number sets
 abbrev pub rate_under : (Setting → Option Throttle) → Option Throttle → List (ℕ × Rule) → ℕ → Option Throttle
-rate_under option own rules key = if key == 0 then own else option_and_then (set_by option) (find (λ r. r.0 == key) rules)
+rate_under option own rules key =
+    if key == 0 then own else option_and_then (set_by option) (find (λ rule. rule.0 == key) rules)
 
 abbrev pub message_rate_of_key : PathBase → ℕ → Option Throttle
 message_rate_of_key base key = rate_under message_rate_in (in_force_of base.options).message_rate (numbered_rules base) key
