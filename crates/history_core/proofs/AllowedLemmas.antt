@@ -1,6 +1,6 @@
 -- What had to hold where a connection was opened, and where an attempt began.
-use Rattle.std.proofs.Common.{◌≡◌, ◌≤◌, ◌<◌, ⊎_elim, ℕ, min, List, [], ◌∷◌, ◌++◌, Bool, true, false, not, ◌&&◌, Option, Some, None, length, eqb, ltb, leb, bytes_eq, arith, refl, sym, ap, subst, ◌∙◌}
-use Rattle.std.specs.List.{Contains, find, list_any}
+use Rattle.std.proofs.Common.{◌≡◌, ◌≤◌, ◌<◌, ℕ, List, [], ◌∷◌, ◌++◌, true, false, not, Option, Some, None, length, eqb, ltb, bytes_eq, arith, refl, sym, ap, subst, ◌∙◌}
+use Rattle.std.specs.List.{Contains, find}
 use Rattle.std.specs.Option.{option_map, option_and_then, is_some}
 use Rattle.std.proofs.lemmas.Bool.{and_parts, eqb-true, leb-false, ltb-false, ltb-true, not-true, both_ways}
 use Rattle.std.proofs.lemmas.Option.{same_Some}
@@ -16,22 +16,21 @@ use Rattle.policy_core.specs.LiveOrders.{holds, bounces}
 use Rattle.policy_core.specs.declared.orders.Order.{Order}
 use Rattle.policy_core.specs.declared.orders.Order.TheVariants.{Suspend, SuspendReady, Bounce, Resume}
 use Rattle.history_core.specs.declared.entry.Entry.{Entry}
-use Rattle.history_core.specs.declared.entry.Event.{Event}
 use Rattle.history_core.specs.declared.entry.Event.TheVariants.{Opened, Begun}
 use Rattle.history_core.specs.declared.path.Path.{Path}
 use Rattle.history_core.specs.History.{messages, message_with, has_id, text_of, paths, path_named}
-use Rattle.history_core.specs.Fate.{fate_of, pending}
+use Rattle.history_core.specs.Fate.{fate_of}
 use Rattle.history_core.specs.LiveOrders.{GivenOrder, live_orders, is_held, bounced_by}
 use Rattle.history_core.specs.Connection.{Connection, connections, connection_with, path_of_connection, used, open_connections}
-use Rattle.history_core.specs.Firing.{is_halted, is_covered, is_free}
+use Rattle.history_core.specs.Firing.{is_halted, is_covered}
 use Rattle.history_core.specs.Limits.{limits, admits, opened_moments, begun_moments}
 use Rattle.history_core.specs.Ready.{ready, is_some_free, is_free_id, first_free}
 use Rattle.history_core.specs.Openable.{admits_opening, admits_beginning, is_openable, message_key}
 use Rattle.history_core.specs.Allowed.{KeepsRate, HasFreeMessage, AllowsOpening, AllowsAttempt}
-use Rattle.history_core.specs.Legal.{Row, MayFollow, IsLegal}
+use Rattle.history_core.specs.Legal.{Row, IsLegal}
 use Rattle.history_core.proofs.Lists.{Passing, find_there, find-filter, there_any}
 use Rattle.history_core.proofs.LegalLemmas.{IsLegal-front, IsLegal-at}
-use Rattle.history_core.proofs.Picked.{AtWork, at_work, first_there, opened_next}
+use Rattle.history_core.proofs.Picked.{at_work, first_there, opened_next}
 use Rattle.history_core.proofs.Settling.{live_opened, ready-pending}
 
 -- what a rate admits keeps it
@@ -100,7 +99,7 @@ opening policy h t who conn text key legal within row =
     let first = some_is (first_free policy h t p) two.1 in
     let below : length (open_connections h (text_of p)) < (limits policy h t p).connection_limit = ltb-true _ _ one.1 in
     let rate : KeepsRate (limits policy h t p).connection_rate (opened_moments h (text_of p) (limits policy h t p).connection_key ++ t ∷ []) =
-        keeps_rate (limits policy h t p).connection_rate (opened_moments h (text_of p) (limits policy h t p).connection_key) t within three.1 in
+    keeps_rate (limits policy h t p).connection_rate (opened_moments h (text_of p) (limits policy h t p).connection_key) t within three.1 in
     record {
       path = p;
       is_path = there.0;
@@ -137,7 +136,7 @@ attempt policy h t who conn id key legal within row =
     let unspent : used h c.number < (limits policy h t p).deliveries = leb-false _ _ at.works.unspent in
     let few : length (open_connections h (text_of p)) ≤ (limits policy h t p).connection_limit = ltb-false _ _ at.works.within in
     let rate : KeepsRate (limits policy h t p).message_rate (begun_moments h (text_of p) (limits policy h t p).message_key ++ t ∷ []) =
-        keeps_rate (limits policy h t p).message_rate (begun_moments h (text_of p) (limits policy h t p).message_key) t within at.works.admitted in
+    keeps_rate (limits policy h t p).message_rate (begun_moments h (text_of p) (limits policy h t p).message_key) t within at.works.admitted in
     record {
       connection = c;
       path = p;

@@ -18,7 +18,7 @@ use Rattle.history_core.specs.Events.{message_in, Promotion, promotion_in, is_st
 use Rattle.history_core.specs.History.{along_from, along, messages, message_with, has_id, has_stopped, last_moment, Promoted, path_for, promoted_at, promotions, is_same_path, with_path, paths, path_named, text_of}
 use Rattle.history_core.specs.Fate.{fate_of, pending}
 use Rattle.history_core.specs.Retry.{failures_after, failures, due_after, due}
-use Rattle.history_core.specs.LiveOrders.{GivenOrder, given_order_in, orders, is_resumed}
+use Rattle.history_core.specs.LiveOrders.{given_order_in, orders, is_resumed}
 use Rattle.history_core.specs.Connection.{Connection, connection_in, connections, connection_with, is_closed, used, busy_after, busy_with, idle_after, idle_since}
 use Rattle.history_core.specs.Firing.{matches_at, matches, fired_at, firings_of, firings}
 use Rattle.history_core.specs.Limits.{opened_moments, begun_at, begun_moments}

@@ -1,10 +1,10 @@
 -- What is known of the message that is promoted, resolved or delayed next, of the path that is opened next, and of the
 -- message that is attempted next.
-use Rattle.std.proofs.Common.{◌≡◌, ◌⊎◌, ⊎_elim, ℕ, List, [], ◌∷◌, Bool, true, false, not, cond, ◌&&◌, Option, Some, None, option_map, length, map, filter, eqb, leb, ltb, arith, refl, sym, ap, subst, ◌∙◌}
-use Rattle.std.specs.List.{Contains, find, list_any}
+use Rattle.std.proofs.Common.{◌≡◌, ℕ, List, [], ◌∷◌, Bool, true, false, not, cond, ◌&&◌, Option, Some, None, option_map, length, filter, eqb, leb, ltb, arith, refl, ap, subst}
+use Rattle.std.specs.List.{Contains, find}
 use Rattle.std.specs.Option.{option_or, option_and_then}
 use Rattle.std.proofs.lemmas.Bool.{and_parts, eqb-true}
-use Rattle.std.proofs.lemmas.Option.{same_Some, option_and_then_some}
+use Rattle.std.proofs.lemmas.Option.{same_Some}
 use Rattle.queue_name.specs.declared.message.Message.{Message}
 use Rattle.policy_core.specs.Policy.{Policy}
 use Rattle.history_core.specs.declared.entry.Entry.{Entry}
@@ -14,7 +14,7 @@ use Rattle.history_core.specs.declared.path.Path.{Path}
 use Rattle.history_core.specs.History.{messages, has_id, Promoted, is_same_path, path_named, text_of, paths}
 use Rattle.history_core.specs.Fate.{fate_of, pending}
 use Rattle.history_core.specs.Retry.{due}
-use Rattle.history_core.specs.Connection.{Connection, connections, connection_with, open_connections, used}
+use Rattle.history_core.specs.Connection.{Connection, connection_with, open_connections, used}
 use Rattle.history_core.specs.Firing.{is_halted}
 use Rattle.history_core.specs.Limits.{limits}
 use Rattle.history_core.specs.Ready.{standing_promotions, ready, is_free_id, first_free}
@@ -76,7 +76,7 @@ by_message policy h t id source None least is = absurd cc
 by_message policy h t id source (Some m) least is =
     let both : (m.id ≡ id) × (pick_for policy h t m ≡ Some source) = by_pick m.id id source (pick_for policy h t m) is in
     let there : Passing (is_promotable policy h t) (pending h) m =
-        filter_there (is_promotable policy h t) (pending h) m (least_there (due h) (filter (is_promotable policy h t) (pending h)) m least) in
+    filter_there (is_promotable policy h t) (pending h) m (least_there (due h) (filter (is_promotable policy h t) (pending h)) m least) in
     record { message = m; waits = there.0; promotable = there.1; same = both.0; picked = both.1 }
 
 pub swept_promotion : (policy : Policy) (h : List Entry) (t id : ℕ) (source : List ℕ) → next_swept policy h t ≡ Some (promoted id source)
@@ -134,7 +134,7 @@ first_tests false false false v id is = (refl, refl, is)
 pub verdict_works : (policy : Policy) (h : List Entry) (t : ℕ) (p : Path) (c : Connection) (id : ℕ) → verdict_on policy h t p c ≡ work id → Works policy h t p c id
 verdict_works policy h t p c id is =
     let (unspent, within, later) = first_tests (is_stale policy h t p c) (leb (limits policy h t p).deliveries (used h c.number))
-        (ltb (limits policy h t p).connection_limit (length (open_connections h (text_of p)))) _ id is in
+    (ltb (limits policy h t p).connection_limit (length (open_connections h (text_of p)))) _ id is in
     let (running, admitted, first) = last_tests (is_halted policy h t p) (admits_beginning policy h t p) (next_beginning policy h t p) (first_free policy h t p) id later in
     record { unspent = unspent; within = within; running = running; admitted = admitted; first = first }
 

@@ -1,11 +1,8 @@
 -- Over a whole legal history the moments that are counted under a key keep the rate that it stands for.
-use Rattle.std.proofs.Common.{◌≡◌, ◌≤◌, ◌<◌, ◌+◌, ◌⊎◌, inl, inr, ⊎_elim, ℕ, List, [], ◌∷◌, ◌++◌, Bool, true, false, cond, ◌&&◌, Option, Some, None, option_map, unwrap_or, length, map, filter, fold, eqb, bytes_eq, arith, refl, sym, ap, subst, ◌∙◌, append_assoc, append-nil}
-use Rattle.std.specs.List.{Contains, find, list_any, enumerate_from}
+use Rattle.std.proofs.Common.{◌≡◌, ◌≤◌, ◌+◌, ◌⊎◌, inl, inr, ⊎_elim, ℕ, List, [], ◌∷◌, ◌++◌, Bool, true, false, cond, ◌&&◌, Option, Some, None, option_map, unwrap_or, map, filter, eqb, bytes_eq, arith, refl, sym, ap, subst, ◌∙◌, append-nil}
+use Rattle.std.specs.List.{Contains, find, enumerate_from}
 use Rattle.std.specs.Option.{option_or, option_and_then}
-use Rattle.std.proofs.lemmas.Bool.{and_parts, cases_Bool, eq-eqb, eqb-true, ne_eqb}
-use Rattle.std.proofs.lemmas.List.{map-append}
-use Rattle.std.proofs.lemmas.List.Elements.{Contains-append_left, filter-append}
-use Rattle.std.proofs.lemmas.List.Folds.{find-append}
+use Rattle.std.proofs.lemmas.Bool.{and_parts, eq-eqb, eqb-true, ne_eqb}
 use Rattle.std.proofs.lemmas.Option.{same_Some}
 use Rattle.std.proofs.lemmas.Slice.Eq.{bytes_eq-Decides}
 use Rattle.throttle_spec.specs.Throttle.{Throttle, Conforms}
@@ -13,7 +10,7 @@ use Rattle.policy_core.specs.Policy.{Policy}
 use Rattle.policy_core.specs.Layers.{last_set}
 use Rattle.policy_core.specs.PathTables.{base_of}
 use Rattle.policy_core.specs.PathOptions.{in_force_of}
-use Rattle.policy_core.specs.Automation.{set_by, key_by, message_rate_in, connection_rate_in, numbered_rules, limits_of}
+use Rattle.policy_core.specs.Automation.{set_by, key_by, message_rate_in, connection_rate_in, limits_of}
 use Rattle.policy_core.specs.declared.rules.Rule.{Rule}
 use Rattle.policy_core.specs.declared.rules.Setting.{Setting}
 use Rattle.policy_core.specs.declared.site.PathBase.{PathBase}
@@ -21,16 +18,16 @@ use Rattle.history_core.specs.declared.entry.Entry.{Entry}
 use Rattle.history_core.specs.declared.entry.Event.{Event}
 use Rattle.history_core.specs.declared.entry.Event.TheVariants.{Opened, Begun}
 use Rattle.history_core.specs.declared.path.Path.{Path}
-use Rattle.history_core.specs.History.{Promoted, promoted_at, is_same_path, with_path, paths, path_named, text_of}
-use Rattle.history_core.specs.Connection.{Connection, connection_with, connections, path_of_connection}
+use Rattle.history_core.specs.History.{paths, path_named, text_of}
+use Rattle.history_core.specs.Connection.{Connection, path_of_connection}
 use Rattle.history_core.specs.Limits.{limits, opened_moments, begun_at, begun_moments, is_text}
-use Rattle.history_core.specs.Legal.{Row, MayFollow, IsLegal}
+use Rattle.history_core.specs.Legal.{MayFollow, IsLegal}
 use Rattle.history_core.specs.Allowed.{KeepsRate, AllowsOpening, AllowsAttempt}
 use Rattle.history_core.specs.KeyRates.{rate_under, message_rate_of_key, connection_rate_of_key, IsOnlyPath}
-use Rattle.history_core.proofs.Lists.{Passing, there_none, there_first, there_later, there_cases, filter_there, find_none, find_there}
+use Rattle.history_core.proofs.Lists.{there_none, there_first, there_later, there_cases, filter_there, find_none}
 use Rattle.history_core.proofs.LegalLemmas.{IsLegal-along}
 use Rattle.history_core.proofs.OneMore.{path_named-kept, paths-kept, opened_moments-more, begun_moments-more}
-use Rattle.history_core.proofs.AllowedLemmas.{opening, attempt, named_text}
+use Rattle.history_core.proofs.AllowedLemmas.{opening, attempt}
 
 -- the last of the rules that set an option gives both the rate and the key
 record SetsLast (option : Setting → Option Throttle) (rules : List (ℕ × Rule)) : Type 0 where
@@ -79,13 +76,15 @@ numbered_found n [] r there = absurd (there_none r there)
 numbered_found n (rule ∷ rules) r there =
     ⊎_elim
     (λ first.
-    let number : n ≡ r.0 = ap (λ (x : ℕ × Rule). x.0) first in
-    (omega (arith, number),
-    ap (λ b. cond b (Some (n, rule)) (find (λ (x : ℕ × Rule). eqb x.0 r.0) (enumerate_from (n + 1) rules))) (eq-eqb n r.0 number) ∙ ap Some first))
+    let number : n ≡ r.0 = ap (λ (x : ℕ × Rule). x.0) first in (
+      omega (arith, number),
+      ap (λ b. cond b (Some (n, rule)) (find (λ (x : ℕ × Rule). eqb x.0 r.0) (enumerate_from (n + 1) rules))) (eq-eqb n r.0 number) ∙ ap Some first,
+    ))
     (λ later.
-    let (above, found) = numbered_found (n + 1) rules r later in
-    (omega (arith, above),
-    ap (λ b. cond b (Some (n, rule)) (find (λ (x : ℕ × Rule). eqb x.0 r.0) (enumerate_from (n + 1) rules))) (ne_eqb n r.0 (λ same. omega (arith, same, above))) ∙ found))
+    let (above, found) = numbered_found (n + 1) rules r later in (
+      omega (arith, above),
+      ap (λ b. cond b (Some (n, rule)) (find (λ (x : ℕ × Rule). eqb x.0 r.0) (enumerate_from (n + 1) rules))) (ne_eqb n r.0 (λ same. omega (arith, same, above))) ∙ found,
+    ))
     (there_cases (n, rule) (enumerate_from (n + 1) rules) r there)
 
 -- the rate in force is that which its key stands for
@@ -108,8 +107,8 @@ key_stands option own rules test key s keyed stands = by (sets_cases option set)
         let (above, it) = numbered_found 1 rules found.rule there in
         let some : eqb found.rule.0 0 ≡ false = ne_eqb found.rule.0 0 (λ same. omega (arith, same, above)) in
         let under : rate_under option own (enumerate_from 1 rules) found.rule.0 ≡ Some found.value =
-            ap (λ b. cond b own (option_and_then (set_by option) (find (λ (x : ℕ × Rule). eqb x.0 found.rule.0) (enumerate_from 1 rules)))) some
-            ∙ ap (option_and_then (set_by option)) it ∙ found.sets in
+        ap (λ b. cond b own (option_and_then (set_by option) (find (λ (x : ℕ × Rule). eqb x.0 found.rule.0) (enumerate_from 1 rules)))) some
+        ∙ ap (option_and_then (set_by option)) it ∙ found.sets in
         ap (λ o. option_or o own) found.last ∙ sym under ∙ subst (λ k. rate_under option own (enumerate_from 1 rules) k ≡ Some s) number stands
 
 pub message_key_stands : (base : PathBase) (test : ℕ → Bool) (key : ℕ) (s : Throttle) → key ≡ (limits_of base test).message_key
@@ -185,8 +184,8 @@ module _ (policy : Policy) (h : List Entry) (e : Entry) (legal : IsLegal policy 
   one_conforms text p key s is stands one =
       let same : one.path ≡ p = same_Some one.path p (sym one.named ∙ is) in
       let rate : (limits policy h e.at one.path).message_rate ≡ Some s =
-          message_key_stands (base_of policy one.path.site one.path.source) _ key s one.keyed
-          (subst (λ (q : Path). message_rate_of_key (base_of policy q.site q.source) key ≡ Some s) (sym same) stands) in
+      message_key_stands (base_of policy one.path.site one.path.source) _ key s one.keyed
+      (subst (λ (q : Path). message_rate_of_key (base_of policy q.site q.source) key ≡ Some s) (sym same) stands) in
       subst (Conforms s) (sym (begun_moments-more h e text key ∙ ap (λ xs. begun_moments h text key ++ xs) one.moment))
       (subst (λ r. KeepsRate r (begun_moments h text key ++ e.at ∷ [])) rate one.rate)
 
@@ -277,8 +276,8 @@ module _ (policy : Policy) (h : List Entry) (e : Entry) (legal : IsLegal policy 
   opening_conforms text p key s only stands one =
       let same : one.path ≡ p = only.1 one.path one.there one.has_text in
       let rate : (limits policy h e.at one.path).connection_rate ≡ Some s =
-          connection_key_stands (base_of policy one.path.site one.path.source) _ key s one.keyed
-          (subst (λ (q : Path). connection_rate_of_key (base_of policy q.site q.source) key ≡ Some s) (sym same) stands) in
+      connection_key_stands (base_of policy one.path.site one.path.source) _ key s one.keyed
+      (subst (λ (q : Path). connection_rate_of_key (base_of policy q.site q.source) key ≡ Some s) (sym same) stands) in
       subst (Conforms s) (sym (opened_moments-more h e text key ∙ ap (λ xs. opened_moments h text key ++ xs) one.moment))
       (subst (λ r. KeepsRate r (opened_moments h text key ++ e.at ∷ [])) rate one.rate)
 

@@ -1,8 +1,7 @@
 -- In a legal history each message has at most one fate: what keeps it so, entry by entry.
 use Rattle.std.proofs.Common.{◌≡◌, ◌≤◌, ◌⊎◌, inl, inr, ⊎_elim, ℕ, List, [], ◌∷◌, ◌++◌, Bool, true, false, not, cond, ◌&&◌, ◌||◌, Option, Some, None, option_map, length, eqb, leb, filter, arith, refl, sym, ap, subst, ◌∙◌, append-nil}
 use Rattle.std.specs.List.{Contains, list_any}
-use Rattle.std.specs.Option.{option_and_then, option_to_list, is_some}
-use Rattle.std.specs.Bool.{IsTrue}
+use Rattle.std.specs.Option.{option_to_list, is_some}
 use Rattle.std.proofs.lemmas.Bool.{and_from, and_parts, both_ways, cases_Bool, cases_eq, eq-eqb, eqb-false, eqb-true, false≢true, not-true, not_from_false, or_cases, or_left, or_right}
 use Rattle.std.proofs.lemmas.List.Elements.{Contains-append_cases}
 use Rattle.std.proofs.lemmas.Option.{same_Some}
@@ -20,15 +19,15 @@ use Rattle.history_core.specs.History.{Promoted, promoted_at, messages, message_
 use Rattle.history_core.specs.Fate.{fate_of, pending}
 use Rattle.history_core.specs.LiveOrders.{bounced_by}
 use Rattle.history_core.specs.Retry.{is_aged, due}
-use Rattle.history_core.specs.Connection.{Connection, connections, open_anywhere, busy_after, busy_with, is_in_flight, is_closed}
+use Rattle.history_core.specs.Connection.{connections, open_anywhere, busy_after, busy_with, is_in_flight, is_closed}
 use Rattle.history_core.specs.Firing.{is_free}
-use Rattle.history_core.specs.Ready.{is_ready_after, is_ready, standing_promotions, ready, is_free_id}
-use Rattle.history_core.specs.Candidates.{is_resolvable, is_promotable, pick_for}
-use Rattle.history_core.specs.Legal.{Row, MayFollow, IsLegal}
+use Rattle.history_core.specs.Ready.{is_ready_after, is_ready, standing_promotions, ready}
+use Rattle.history_core.specs.Candidates.{pick_for}
+use Rattle.history_core.specs.Legal.{Row, IsLegal}
 use Rattle.history_core.proofs.Lists.{Passing, any_there, there_any, there_none, there_cases, there_filter, filter_there}
 use Rattle.history_core.proofs.LegalLemmas.{IsLegal-along, IsLegal-induction}
 use Rattle.history_core.proofs.OneMore.{takes, fate_of-more, busy_with-more, is_ready-more, connections-kept, standing_promotions-more}
-use Rattle.history_core.proofs.Picked.{AtWork, at_work, first_there, pending_there, pending_found, ready_there, delayable_there, swept_promotion}
+use Rattle.history_core.proofs.Picked.{at_work, first_there, pending_there, pending_found, ready_there, delayable_there, swept_promotion}
 
 -- a promotion that stands is of a ready message
 abbrev AreReady : Policy → List Entry → Type 0
@@ -243,10 +242,12 @@ ends : (h : List Entry) (conn of : ℕ) (decided : Outcome) (next : Next) → Se
 ends h conn of decided next k busy = record {
   settles = λ id is.
       let same : of ≡ id = final_same (is_final next) of id is in
-      let here : busy_with h conn ≡ Some id = busy ∙ ap Some same in
-      (k.busy conn id here, λ other also.
-      let (was, differs) = ended_cases (eqb conn other) (busy_with h other) id also in
-      eqb-false conn other differs (k.alone conn other id here was));
+      let here : busy_with h conn ≡ Some id = busy ∙ ap Some same in (
+        k.busy conn id here,
+        λ other also.
+            let (was, differs) = ended_cases (eqb conn other) (busy_with h other) id also in
+            eqb-false conn other differs (k.alone conn other id here was),
+      );
   begins = λ other id is. inl (ended_cases (eqb conn other) (busy_with h other) id is).0;
   readies = λ id is. inl (and_parts (not (is_this (cond (is_final next) (Some of) None) id)) (is_ready h id) is).1;
 }
@@ -275,16 +276,17 @@ pub live_opened : (h : List Entry) (conn who : ℕ) → list_any (λ c. eqb c.nu
 live_opened h conn who is =
     let (c, there, test) = any_there (λ c. eqb c.number conn && eqb c.who who) (open_anywhere h) is in
     let both : Passing (λ c. not (is_closed h c.number)) (connections h) c = filter_there (λ c. not (is_closed h c.number)) (connections h) c there in
-    let same : eqb c.number conn ≡ true = (and_parts (eqb c.number conn) (eqb c.who who) test).0 in
-    (there_any (λ c. eqb c.number conn) (connections h) c both.0 same,
-    subst (λ n. is_closed h n ≡ false) (eqb-true c.number conn same) (not-true (is_closed h c.number) both.1))
+    let same : eqb c.number conn ≡ true = (and_parts (eqb c.number conn) (eqb c.who who) test).0 in (
+      there_any (λ c. eqb c.number conn) (connections h) c both.0 same,
+      subst (λ n. is_closed h n ≡ false) (eqb-true c.number conn same) (not-true (is_closed h c.number) both.1),
+    )
 
 does_promote : (policy : Policy) (h : List Entry) (t of : ℕ) (source : List ℕ) → Settling h → Row policy h t 0 (promoted of source) → Does h (promoted of source)
 does_promote policy h t of source k row =
     let next = swept_promotion policy h t of source row in
     let m = next.message in
     let waits : (not (is_ready h m.id) && not (is_in_flight h m.id)) ≡ true =
-        (and_parts _ (leb (due h m) t) (and_parts _ (is_free policy h t m) (and_parts _ (is_some (pick_for policy h t m)) next.promotable).0).0).0 in
+    (and_parts _ (leb (due h m) t) (and_parts _ (is_free policy h t m) (and_parts _ (is_some (pick_for policy h t m)) next.promotable).0).0).0 in
     let free : is_in_flight h m.id ≡ false = not-true (is_in_flight h m.id) (and_parts (not (is_ready h m.id)) (not (is_in_flight h m.id)) waits).1 in
     promotes policy h t of source k
     (subst (λ i. fate_of h i ≡ []) next.same (pending_there h m next.waits).1)
@@ -306,7 +308,7 @@ does_resolve : (policy : Policy) (h : List Entry) (t who of : ℕ) (how : How) �
 does_resolve policy h t who of how k row =
     let found : (row.0.id ≡ of) × (fate_of h of ≡ []) = pending_found h of row.0 row.1 in
     let free : is_in_flight h row.0.id ≡ false =
-        not-true (is_in_flight h row.0.id) (and_parts (not (is_in_flight h row.0.id)) (is_some (bounced_by h t row.0.name) || is_aged policy t row.0) row.2.0).0 in
+    not-true (is_in_flight h row.0.id) (and_parts (not (is_in_flight h row.0.id)) (is_some (bounced_by h t row.0.name) || is_aged policy t row.0) row.2.0).0 in
     resolves h of how found.1 (subst (IsIdle h) found.0 (is_in_flight-none h k row.0.id free))
 
 does : (policy : Policy) (h : List Entry) (t who : ℕ) (e : Event) → IsLegal policy h → Settling h → Row policy h t who e → Does h e
