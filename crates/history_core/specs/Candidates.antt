@@ -10,8 +10,9 @@ use Rattle.history_core.specs.declared.entry.Entry.{Entry}
 use Rattle.history_core.specs.declared.entry.Cause.{Cause}
 use Rattle.history_core.specs.declared.entry.Cause.TheVariants.{Refused}
 use Rattle.history_core.specs.declared.path.Path.{Path}
+use Rattle.history_core.specs.declared.path.Promoted.{Promoted}
 use Rattle.history_core.specs.Events.{Promotion, promotion_in, opening_in, closing_in}
-use Rattle.history_core.specs.History.{along, message_with, path_for, text_of, Promoted}
+use Rattle.history_core.specs.History.{along, message_with, path_for, text_of}
 use Rattle.history_core.specs.Retry.{settings_for, due, is_aged}
 use Rattle.history_core.specs.LiveOrders.{bounced_by}
 use Rattle.history_core.specs.Connection.{is_in_flight, path_of_connection}

@@ -7,6 +7,7 @@ use Rattle.policy_core.specs.PathTables.{path_text}
 use Rattle.policy_core.specs.Site.{site_of, is_same_site}
 use Rattle.history_core.specs.declared.entry.Entry.{Entry}
 use Rattle.history_core.specs.declared.path.Path.{Path}
+use Rattle.history_core.specs.declared.path.Promoted.{Promoted}
 use Rattle.history_core.specs.Events.{message_in, promotion_in, is_stopped}
 
 -- what items add up to, where each adds something by those before it
@@ -49,12 +50,7 @@ text_of p = path_text p.source p.site.name
 abbrev pub is_same_path : Path → Path → Bool
 is_same_path p q = bytes_eq p.source q.source && is_same_site p.site q.site
 
--- a message that was promoted: the place of the entry in the history, and the path that it leads to
-pub record Promoted : Type 0 where
-  pub place : ℕ
-  pub id : ℕ
-  pub path : Path
-
+-- the message that an entry promotes
 abbrev pub promoted_at : Policy → List Entry → Entry → List Promoted
 promoted_at policy before e = option_to_list (option_and_then (λ p.
     option_map (λ m. record { place = length before; id = p.id; path = path_for policy m p.source }) (message_with before p.id))

@@ -7,8 +7,9 @@ use Rattle.history_core.specs.declared.entry.Entry.{Entry}
 use Rattle.history_core.specs.declared.entry.Event.{Event}
 use Rattle.history_core.specs.declared.entry.Event.TheVariants.{Promoted as promoted}
 use Rattle.history_core.specs.declared.path.Path.{Path}
+use Rattle.history_core.specs.declared.path.Promoted.{Promoted}
 use Rattle.history_core.specs.Events.{taken_in, is_this}
-use Rattle.history_core.specs.History.{Promoted, promotions, message_with, is_same_path}
+use Rattle.history_core.specs.History.{promotions, message_with, is_same_path}
 use Rattle.history_core.specs.Firing.{is_free}
 
 -- an entry after the promotion takes the message from its queue

@@ -12,5 +12,5 @@ mod rule_match;
 
 pub use entry::{Cause, Entry, Event, How, Next};
 pub use history::History;
-pub use path::Path;
+pub use path::{Path, Promoted};
 pub use rule_match::RuleMatch;

@@ -13,6 +13,16 @@ pub struct Path {
     pub site: Site,
 }
 
+/// A message that was promoted.
+#[derive(Drop)]
+pub struct Promoted {
+    /// The place of the entry in the history, from 0.
+    pub place: u64,
+    pub id: u128,
+    /// The path that it was promoted to.
+    pub path: Path,
+}
+
 impl Path {
     /// An equal path.
     pub fn copy(&self, alloc: Global) -> Result<Path, Memory>
