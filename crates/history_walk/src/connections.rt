@@ -1,8 +1,9 @@
 //! Connections, and what they are busy with.
-ghost use Rattle.std.specs.Prelude.{◌≡◌, ◌==◌, option_map, true, false};
+ghost use Rattle.std.specs.Prelude.{◌≡◌, ◌≢◌, ◌↔◌, ◌≤◌, ◌+◌, ◌==◌, List, [], ◌∷◌, option_map, length, count_by, bytes_eq, IsTrue, true, false};
+ghost use Rattle.history_core.specs.declared.entry.Entry.{Entry};
 ghost use Rattle.history_core.specs.Events.{opening_in, closing_in, beginning_in, attempt_end_in, is_this};
-ghost use Rattle.history_core.specs.Connection.{connection_in, connections, connection_with, is_closed, used, busy_after, busy_with, is_in_flight, idle_after, idle_since};
-ghost use Rattle.history_walk.specs.Opened.{connection_of, some_passes};
+ghost use Rattle.history_core.specs.Connection.{connection_in, connections, connection_with, is_closed, used, busy_after, busy_with, is_in_flight, idle_after, idle_since, open_anywhere, open_connections, is_live_for};
+ghost use Rattle.history_walk.specs.Opened.{connection_of, some_passes, open_in, idle_in};
 
 use history_core::{Entry, Event};
 
@@ -147,4 +148,96 @@ pub fn idle_since(entries: &[Entry], opened: &Opened<'_>) -> u64
         since = idle_after(opened.number, since, entry);
     }
     since
+}
+
+/// The connection that an entry opens, where it is still open.
+pub fn open_by<'h>(entries: &[Entry], entry: &'h Entry) -> Option<Opened<'h>>
+    ensures { option_map connection_of result ≡ open_in entries.now entry.now }
+{
+    match opened_by(entry) {
+        Some(opened) if !is_closed(entries, opened.number) => Some(opened),
+        _ => None,
+    }
+}
+
+/// Whether some connection is open.
+pub fn has_open(entries: &[Entry]) -> bool
+    ensures { IsTrue result ↔ (open_anywhere entries.now ≢ []) }
+{
+    for entry in entries {
+        if open_by(entries, entry).is_some() {
+            return true;
+        }
+    }
+    false
+}
+
+/// How many connections the entry opens: one or none.
+fn openings_in(entry: &Entry) -> usize
+    ensures value { (later : List Entry) → length (connections (entry.now ∷ later)) ≡ result + length (connections later) }
+    ensures low { result ≤ 1 }
+{
+    match opened_by(entry) {
+        Some(_) => 1,
+        None => 0,
+    }
+}
+
+/// How many connections were opened.
+pub fn opened_count(entries: &[Entry]) -> usize
+    ensures { result ≡ length (connections entries.now) }
+{
+    let mut count = 0;
+    for entry in entries {
+        count += openings_in(entry);
+    }
+    count
+}
+
+/// Whether the entry opens a connection of the path of a text that is still open.
+fn opens_on(entries: &[Entry], entry: &Entry, text: &str) -> bool
+    ensures { result ≡ some_passes (λ c. bytes_eq c.path text.now) (open_in entries.now entry.now) }
+{
+    match open_by(entries, entry) {
+        Some(opened) => opened.path == text,
+        None => false,
+    }
+}
+
+/// How many entries open a connection of the path of a text that is still open.
+fn openings_on(entries: &[Entry], text: &str) -> usize
+    ensures { result ≡ count_by (λ e. some_passes (λ c. bytes_eq c.path text.now) (open_in entries.now e)) entries.now }
+{
+    entries.iter().filter(|entry| opens_on(entries, entry, text)).count()
+}
+
+/// How many connections of the path of a text are open.
+pub fn open_count(entries: &[Entry], text: &str) -> usize
+    ensures { result ≡ length (open_connections entries.now text.now) }
+{
+    openings_on(entries, text)
+}
+
+/// Whether a connection is open and was opened by this pass.
+pub fn is_live_for(entries: &[Entry], conn: u64, who: u32) -> bool
+    ensures { result ≡ is_live_for entries.now conn who }
+{
+    for entry in entries {
+        if let Some(opened) = open_by(entries, entry) {
+            if opened.number == conn && opened.who == who {
+                return true;
+            }
+        }
+    }
+    false
+}
+
+/// The connection that an entry opens, where it is open and not busy.
+pub fn idle_by<'h>(entries: &[Entry], entry: &'h Entry) -> Option<Opened<'h>>
+    ensures { option_map connection_of result ≡ idle_in entries.now entry.now }
+{
+    match open_by(entries, entry) {
+        Some(opened) if busy_with(entries, opened.number).is_none() => Some(opened),
+        _ => None,
+    }
 }

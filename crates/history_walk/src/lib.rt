@@ -3,4 +3,5 @@
 #![tactic(auto)]
 
 mod connections;
+mod messages;
 mod orders;
