@@ -2,6 +2,8 @@
 //! list of entries, legal or not.
 #![tactic(auto)]
 
+mod automation;
 mod connections;
+mod limits;
 mod messages;
 mod orders;
