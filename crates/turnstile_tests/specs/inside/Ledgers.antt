@@ -3,7 +3,7 @@ use Rattle.std.specs.Prelude.{ℕ, List, [], ◌∷◌, ◌++◌, map, Bool, con
 use base.Stored.{gnil, gnum}
 use Rattle.turnstile.specs.declared.chronicle.Note.{Note}
 use Rattle.turnstile.specs.declared.chronicle.Shown.{Shown}
-use Rattle.turnstile.specs.declared.ledger.Mark.{Mark}
+use Rattle.turnstile_tests.specs.declared.ledger.Mark.{Mark}
 
 abbrev pub note : Mark → Note
 note m = record { by = m.by; what = record { of = gnum m.number } }
@@ -21,5 +21,5 @@ abbrev pub with_mark : List Mark → ℕ → ℕ → List Mark
 with_mark ms by number = ms ++ record { by = by; number = number } ∷ []
 
 -- the entries that a turn made which answered `b`
-abbrev pub made : Bool → ℕ → ℕ → List Note
-made b by number = cond b (note record { by = by; number = number } ∷ []) []
+abbrev pub notes_made : Bool → ℕ → ℕ → List Note
+notes_made b by number = cond b (note record { by = by; number = number } ∷ []) []

@@ -3,15 +3,13 @@
 //! It shows how a type becomes a `Chronicle`, and what a caller has of the turnstile's contracts: `mark_turn` adds its
 //! mark behind all that stands in the ledger, and its pass then knows of its own marks exactly those that it made.
 ghost use Rattle.std.specs.Prelude.{◌≡◌, ◌++◌, MatchBool};
-ghost use Rattle.turnstile.specs.Entries.{Follows, own};
+ghost use Rattle.turnstile.specs.Entries.{Follows, own_entries};
 ghost use Rattle.turnstile.specs.Passes.{view, stile_of, id_of, IsIdle, KeepsPlace};
-ghost use Rattle.turnstile.specs.Ledgers.{shown_marks, with_mark, made};
+ghost use Rattle.turnstile_tests.specs.inside.Ledgers.{shown_marks, with_mark, notes_made};
 
-use crate::chronicle::Chronicle;
-use crate::pass::Pass;
-use crate::stile::Turnstile;
 use std::alloc::Global;
 use std::sync::Wait;
+use turnstile::{Chronicle, Pass, Turnstile};
 
 /// One entry of a ledger: the number of the pass that made it, and a number of its own.
 #[derive(Clone, Copy, Debug, PartialEq, Eq)]
@@ -27,7 +25,7 @@ pub struct Ledger {
 }
 
 impl Chronicle for Ledger {
-    ghost use Rattle.turnstile.specs.Ledgers.{shown_marks};
+    ghost use Rattle.turnstile_tests.specs.inside.Ledgers.{shown_marks};
 
     ghost shown = { λ b. shown_marks b.marks.items };
 }
@@ -49,7 +47,7 @@ pub fn mark_turn<R: Wait>(rt: &R, stile: &Turnstile<Ledger>, pass: &mut Pass, nu
     requires idle { IsIdle pass.old }
     ensures place { KeepsPlace pass.old pass.new }
     ensures own { let v = view pass.old in
-        own v.number (view pass.new).seen.entries ≡ own v.number v.seen.entries ++ made result v.number number }
+        own_entries v.number (view pass.new).seen.entries ≡ own_entries v.number v.seen.entries ++ notes_made result v.number number }
 {
     let mut ledger = stile.enter(rt, pass);
     let done = ledger.add(pass.number(), number);
