@@ -9,10 +9,10 @@ use Rattle.policy_texts.specs.Texts.{too_long}
 use Rattle.kumo_run.specs.declared.refusal.Refusal.{Refusal}
 use Rattle.kumo_run.specs.declared.refusal.Refusal.TheVariants as refusal
 use Rattle.kumo_run.specs.RefusalLine.{status_of}
-use Rattle.kumo_run.specs.StatusCode.{number_of}
+use Rattle.kumo_run.specs.StatusCode.{status_number}
 use Rattle.kumo_run.specs.Outside.{Outside}
 use Rattle.kumo_run.specs.MailRead.{MailRead, too_long as too_long_mail, mail_gives, mail_read, IsMany}
-use Rattle.kumo_run.specs.Ending.{Ending, done, unwritten, unfinished, refused, code_of, Printed}
+use Rattle.kumo_run.specs.Ending.{Ending, done, unwritten, unfinished, refused, status_code_of, Printed}
 use Rattle.kumo_run.specs.Deeds.{Deed, MailSays}
 use Rattle.kumo_run.specs.Causes.{Inputs, no_command, unbuilt, policy, mail, inputs_of, Cause}
 use Rattle.kumo_run.specs.Ends.{Did, EndsCommand}
@@ -35,7 +35,7 @@ not_many list found gives few many =
     omega (arith, same, more, few)
 
 module _ (b a : Outside) (calm : IsCalm b a) where
-  refused_well : (i : Inputs) (d : Deed) (why : Refusal) → IsGood i b → Cause i b a d why → EndsWell i b (number_of (status_of why)) d.sessions
+  refused_well : (i : Inputs) (d : Deed) (why : Refusal) → IsGood i b → Cause i b a d why → EndsWell i b (status_number (status_of why)) d.sessions
   refused_well no_command d why good cause = absurd good
   refused_well unbuilt d why good cause = absurd good
   refused_well (policy names) d refusal.Usage good cause = absurd cc
@@ -69,7 +69,7 @@ module _ (b a : Outside) (calm : IsCalm b a) where
   refused_well (mail name) d refusal.NotYetReply good cause = inr (inr cause)
 
   by_ending : (c : Option Command) (ending : Ending) (d : Deed) → IsGood (inputs_of c) b → Did ending c b a d
-      → Printed ending b.out a.out d.text → EndsWell (inputs_of c) b (code_of ending) d.sessions
+      → Printed ending b.out a.out d.text → EndsWell (inputs_of c) b (status_code_of ending) d.sessions
   by_ending c done d good did printed = inl refl
   by_ending c unwritten d good did printed = absurd (calm.out printed.0)
   by_ending c unfinished d good did printed = inr (inl refl)

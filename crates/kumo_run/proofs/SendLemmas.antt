@@ -4,7 +4,7 @@ use Rattle.queue_name.specs.declared.message.Message.{Message}
 use Rattle.kumo_outside.specs.declared.session.Session.{Session}
 use Rattle.kumo_outside.specs.declared.text_reader.TheConstants.{TEXT_LIMIT}
 use Rattle.kumo_outside.specs.Reading.{IsReadUpTo}
-use Rattle.kumo_outside.specs.Told.{TextsSeen}
+use Rattle.kumo_outside.specs.Content.{TextsSeen}
 use Rattle.mail_input.specs.Inputs.{messages, refused}
 use Rattle.kumo_run.specs.declared.refusal.Refusal.{Refusal}
 use Rattle.kumo_run.specs.declared.refusal.Refusal.TheVariants as refusal

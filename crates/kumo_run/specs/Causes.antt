@@ -3,7 +3,7 @@ use Rattle.std.specs.Prelude.{◌≡◌, ℕ, List, [], ◌∷◌, Option, Some,
 use Rattle.kumo_base.specs.Causes.{Rose}
 use Rattle.queue_name.specs.declared.message.Message.{Message}
 use Rattle.kumo_outside.specs.declared.session.Session.{Session}
-use Rattle.kumo_outside.specs.Told.{TextsSeen, SinkSeen}
+use Rattle.kumo_outside.specs.Content.{TextsSeen, SinkSeen}
 use Rattle.kumo_outside.specs.Search.{SearchSeen}
 use Rattle.mail_input.specs.Inputs.{messages, refused as refused_mail}
 use Rattle.command_words.specs.Commands.{PolicyNames, Command, check, explain, spool, send, crew, load}

@@ -8,5 +8,4 @@ pub mod Policy
 pub mod Site
 pub mod PathTables
 pub mod Rotation
-pub mod Words
 pub mod inside

@@ -4,7 +4,7 @@
 //! come as a list; nothing is kept. The one refusal is `Memory`.
 ghost use Rattle.std.specs.Prelude.{◌≡◌, ◌++◌, ◌∷◌, [], IfOk, OnOk, map};
 ghost use Rattle.std.specs.List.{filter};
-ghost use Rattle.policy_core.specs.Site.{hosts_of, are_same_texts, is_at_site, own_domain, rollup_of, shape_of};
+ghost use Rattle.policy_core.specs.Site.{hosts_of, are_same_texts, is_at_site, own_domain, rollup_of, domain_shape};
 ghost use Rattle.policy_core.specs.PathTables.{firsts};
 ghost use Rattle.shaping_merge.specs.inside.Domains.{AreDomainsOf};
 ghost use Rattle.shaping_merge.specs.inside.Rollups.{AreRollups};
@@ -40,7 +40,7 @@ pub(crate) fn is_at(
     site: &Site,
     domain: &str,
 ) -> Result<bool, Memory>
-    requires { rollup ≡ rollup_of (shape_of policy.now.shaping domain.now) }
+    requires { rollup ≡ rollup_of (domain_shape policy.now.shaping domain.now) }
     ensures { IfOk result (λ here. here ≡ is_at_site policy.now site.now domain.now) }
 {
     let hosts = site.hosts.as_slice();

@@ -1,9 +1,9 @@
 -- The words of printed lines on policy texts.
 use Rattle.std.specs.Prelude.{ℕ, List, codes}
-use Rattle.policy_core.specs.declared.fault.PolicyFile.{PolicyFile}
-use Rattle.policy_core.specs.declared.fault.PolicyFile.TheVariants as file
-use Rattle.policy_core.specs.declared.fault.Why.{Why}
-use Rattle.policy_core.specs.declared.fault.Why.TheVariants as why
+use Rattle.policy_fault.specs.declared.fault.PolicyFile.{PolicyFile}
+use Rattle.policy_fault.specs.declared.fault.PolicyFile.TheVariants as file
+use Rattle.policy_fault.specs.declared.fault.Why.{Why}
+use Rattle.policy_fault.specs.declared.fault.Why.TheVariants as why
 
 abbrev pub name_of_file : PolicyFile → List ℕ
 name_of_file file.Sources = codes "sources"

@@ -4,7 +4,7 @@
 //! in one list for all files. The types keep the place as texts of their own, so that a fault outlives the file; copying one
 //! may answer `Memory`.
 ghost use Rattle.std.specs.Prelude.{◌≡◌, IfOk};
-ghost use Rattle.policy_core.specs.Words.{name_of_file, name_of_why};
+ghost use Rattle.policy_fault.specs.Words.{name_of_file, name_of_why};
 
 use kumo_base::{Memory, Text};
 use std::alloc::Global;
@@ -171,7 +171,7 @@ impl PolicyPlace {
 }
 
 impl From<Memory> for PolicyFault {
-    ghost use Rattle.policy_core.specs.declared.fault.PolicyFault.{PolicyFault};
+    ghost use Rattle.policy_fault.specs.declared.fault.PolicyFault.{PolicyFault};
 
     ghost from_gives = { λ _ fault. fault ≡ PolicyFault.Memory };
 

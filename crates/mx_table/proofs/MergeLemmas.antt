@@ -1,4 +1,4 @@
--- Rows in order, joined where they have one domain.
+-- Rows in order, merged where they have one domain.
 use Rattle.std.proofs.Common.{◌≡◌, ◌∙◌, sym, ap, subst, refl, suc, ℕ, ◌+◌, List, [], ◌∷◌, ◌++◌, ◌&&◌, ◌||◌, Bool, true, false, cond, bytes_eq, IsTrue, arith}
 use Rattle.std.specs.declared.cmp.Ordering.{Ordering}
 use Rattle.std.specs.declared.cmp.Ordering.TheVariants.{Less, Equal, Greater}
@@ -14,7 +14,7 @@ use Rattle.std.proofs.lemmas.Slice.Eq.{bytes_eq-Decides}
 use Rattle.policy_core.specs.declared.mx.MxRow.{MxRow}
 use Rattle.policy_core.specs.Mx.{comes_before, ascend_behind, ascend, has_hosts, is_mx_table}
 use Rattle.mx_table.specs.MxText.{row, gives, Joins}
-use Rattle.mx_table.specs.inside.Joined.{by_domain, domains, joined_behind, joined}
+use Rattle.mx_table.specs.inside.Merged.{by_domain, domains, merged_behind, merged_rows}
 
 -- whether a row gives a domain a host
 abbrev pub given : List ℕ → List ℕ → MxRow → Bool
@@ -38,16 +38,16 @@ given_joined domain host r s same =
     ∙ ap (λ (text : List ℕ). given domain host r || (bytes_eq text domain && list_any (bytes_eq host) s.hosts)) ((bytes_eq-Decides r.domain s.domain).0 same)
 
 gives_behind : (domain host : List ℕ) (last : MxRow) (rows : List MxRow)
-    → gives (joined_behind last rows) domain host ≡ (given domain host last || gives rows domain host)
+    → gives (merged_behind last rows) domain host ≡ (given domain host last || gives rows domain host)
 gives_behind domain host last [] = refl
 gives_behind domain host last (next ∷ rows) =
     by (bytes_eq last.domain next.domain) refl
     (gives_behind domain host (row last.domain (last.hosts ++ next.hosts)) rows) (gives_behind domain host next rows) where
       by : (b : Bool) → bytes_eq last.domain next.domain ≡ b
-          → gives (joined_behind (row last.domain (last.hosts ++ next.hosts)) rows) domain host
+          → gives (merged_behind (row last.domain (last.hosts ++ next.hosts)) rows) domain host
           ≡ (given domain host (row last.domain (last.hosts ++ next.hosts)) || gives rows domain host)
-          → gives (joined_behind next rows) domain host ≡ (given domain host next || gives rows domain host)
-          → gives (cond b (joined_behind (row last.domain (last.hosts ++ next.hosts)) rows) (last ∷ joined_behind next rows)) domain host
+          → gives (merged_behind next rows) domain host ≡ (given domain host next || gives rows domain host)
+          → gives (cond b (merged_behind (row last.domain (last.hosts ++ next.hosts)) rows) (last ∷ merged_behind next rows)) domain host
           ≡ (given domain host last || (given domain host next || gives rows domain host))
       by true same here behind =
           here ∙ ap (λ b. b || gives rows domain host) (given_joined domain host last next same)
@@ -55,9 +55,9 @@ gives_behind domain host last (next ∷ rows) =
       by false other here behind = ap (λ b. given domain host last || b) behind
 
 -- joining keeps what rows give
-gives_joined : (rows : List MxRow) (domain host : List ℕ) → gives (joined rows) domain host ≡ gives rows domain host
-gives_joined [] domain host = refl
-gives_joined (first ∷ rows) domain host = gives_behind domain host first rows
+gives_merged : (rows : List MxRow) (domain host : List ℕ) → gives (merged_rows rows) domain host ≡ gives rows domain host
+gives_merged [] domain host = refl
+gives_merged (first ∷ rows) domain host = gives_behind domain host first rows
 
 -- no domain comes before the one in front of it
 abbrev pub NeverFalls : List ℕ → List MxRow → Type 0
@@ -89,48 +89,48 @@ pub both_true : (a b : Bool) → a ≡ true → b ≡ true → (a && b) ≡ true
 both_true true b e f = f
 both_true false b e f = e
 
-ascend_joined_behind : (text : List ℕ) (last : MxRow) (rows : List MxRow) → comes_before text last.domain ≡ true → NeverFalls last.domain rows
-    → ascend_behind text (domains (joined_behind last rows)) ≡ true
-ascend_joined_behind text last [] before falls = both_true _ true before refl
-ascend_joined_behind text last (next ∷ rows) before falls =
+ascend_merged_behind : (text : List ℕ) (last : MxRow) (rows : List MxRow) → comes_before text last.domain ≡ true → NeverFalls last.domain rows
+    → ascend_behind text (domains (merged_behind last rows)) ≡ true
+ascend_merged_behind text last [] before falls = both_true _ true before refl
+ascend_merged_behind text last (next ∷ rows) before falls =
     by (bytes_eq last.domain next.domain) refl
-    (λ same. ascend_joined_behind text (row last.domain (last.hosts ++ next.hosts)) rows before (subst (λ d. NeverFalls d rows) (sym ((bytes_eq-Decides last.domain next.domain).0 same)) falls.1))
-    (λ after. ascend_joined_behind last.domain next rows after falls.1) where
+    (λ same. ascend_merged_behind text (row last.domain (last.hosts ++ next.hosts)) rows before (subst (λ d. NeverFalls d rows) (sym ((bytes_eq-Decides last.domain next.domain).0 same)) falls.1))
+    (λ after. ascend_merged_behind last.domain next rows after falls.1) where
       by : (b : Bool) → bytes_eq last.domain next.domain ≡ b
-          → (bytes_eq last.domain next.domain ≡ true → ascend_behind text (domains (joined_behind (row last.domain (last.hosts ++ next.hosts)) rows)) ≡ true)
-          → (comes_before last.domain next.domain ≡ true → ascend_behind last.domain (domains (joined_behind next rows)) ≡ true)
-          → ascend_behind text (domains (cond b (joined_behind (row last.domain (last.hosts ++ next.hosts)) rows) (last ∷ joined_behind next rows))) ≡ true
+          → (bytes_eq last.domain next.domain ≡ true → ascend_behind text (domains (merged_behind (row last.domain (last.hosts ++ next.hosts)) rows)) ≡ true)
+          → (comes_before last.domain next.domain ≡ true → ascend_behind last.domain (domains (merged_behind next rows)) ≡ true)
+          → ascend_behind text (domains (cond b (merged_behind (row last.domain (last.hosts ++ next.hosts)) rows) (last ∷ merged_behind next rows))) ≡ true
       by true same here behind = here same
       by false other here behind = both_true _ _ before (behind (comes_behind last.domain next.domain other falls.0))
 
-ascend_joined_first : (last : MxRow) (rows : List MxRow) → NeverFalls last.domain rows → ascend (domains (joined_behind last rows)) ≡ true
-ascend_joined_first last [] falls = refl
-ascend_joined_first last (next ∷ rows) falls =
+ascend_merged_first : (last : MxRow) (rows : List MxRow) → NeverFalls last.domain rows → ascend (domains (merged_behind last rows)) ≡ true
+ascend_merged_first last [] falls = refl
+ascend_merged_first last (next ∷ rows) falls =
     by (bytes_eq last.domain next.domain) refl
-    (λ same. ascend_joined_first (row last.domain (last.hosts ++ next.hosts)) rows (subst (λ d. NeverFalls d rows) (sym ((bytes_eq-Decides last.domain next.domain).0 same)) falls.1))
-    (λ after. ascend_joined_behind last.domain next rows after falls.1) where
+    (λ same. ascend_merged_first (row last.domain (last.hosts ++ next.hosts)) rows (subst (λ d. NeverFalls d rows) (sym ((bytes_eq-Decides last.domain next.domain).0 same)) falls.1))
+    (λ after. ascend_merged_behind last.domain next rows after falls.1) where
       by : (b : Bool) → bytes_eq last.domain next.domain ≡ b
-          → (bytes_eq last.domain next.domain ≡ true → ascend (domains (joined_behind (row last.domain (last.hosts ++ next.hosts)) rows)) ≡ true)
-          → (comes_before last.domain next.domain ≡ true → ascend_behind last.domain (domains (joined_behind next rows)) ≡ true)
-          → ascend (domains (cond b (joined_behind (row last.domain (last.hosts ++ next.hosts)) rows) (last ∷ joined_behind next rows))) ≡ true
+          → (bytes_eq last.domain next.domain ≡ true → ascend (domains (merged_behind (row last.domain (last.hosts ++ next.hosts)) rows)) ≡ true)
+          → (comes_before last.domain next.domain ≡ true → ascend_behind last.domain (domains (merged_behind next rows)) ≡ true)
+          → ascend (domains (cond b (merged_behind (row last.domain (last.hosts ++ next.hosts)) rows) (last ∷ merged_behind next rows))) ≡ true
       by true same here behind = here same
       by false other here behind = behind (comes_behind last.domain next.domain other falls.0)
 
--- joined rows ascend
-ascend_joined : (rows : List MxRow) → IsSortedBy by_domain rows → ascend (domains (joined rows)) ≡ true
-ascend_joined [] sorted = refl
-ascend_joined (first ∷ rows) sorted = ascend_joined_first first rows (never_falls first rows sorted)
+-- merged rows ascend
+ascend_merged : (rows : List MxRow) → IsSortedBy by_domain rows → ascend (domains (merged_rows rows)) ≡ true
+ascend_merged [] sorted = refl
+ascend_merged (first ∷ rows) sorted = ascend_merged_first first rows (never_falls first rows sorted)
 
 -- a table made of rows in order
-pub joins_rows : (rows ordered done : List MxRow) → IsPermutation rows ordered → Joins done (joined ordered) → Joins done rows
+pub joins_rows : (rows ordered done : List MxRow) → IsPermutation rows ordered → Joins done (merged_rows ordered) → Joins done rows
 unfolding Joins
 joins_rows rows ordered done moved joins = λ domain host.
-    joins domain host ∙ gives_joined ordered domain host ∙ sym (list_any-IsPermutation (given domain host) rows ordered moved)
+    joins domain host ∙ gives_merged ordered domain host ∙ sym (list_any-IsPermutation (given domain host) rows ordered moved)
 
-pub is_table : (ordered done : List MxRow) → IsSortedBy by_domain ordered → domains done ≡ domains (joined ordered)
+pub is_table : (ordered done : List MxRow) → IsSortedBy by_domain ordered → domains done ≡ domains (merged_rows ordered)
     → IsTrue (list_all (λ r. has_hosts r.hosts) done) → IsTrue (is_mx_table done)
 unfolding is_mx_table
-is_table ordered done sorted same hosts = both_true _ _ (ap ascend same ∙ ascend_joined ordered sorted) hosts
+is_table ordered done sorted same hosts = both_true _ _ (ap ascend same ∙ ascend_merged ordered sorted) hosts
 
 -- no row, and one more row as a table has it
 pub joins_none : (done : List MxRow) → done ≡ [] → Joins done []
