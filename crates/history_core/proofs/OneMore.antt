@@ -13,9 +13,10 @@ use Rattle.policy_core.specs.Policy.{Policy}
 use Rattle.policy_core.specs.declared.sources.Pool.{Pool}
 use Rattle.history_core.specs.declared.entry.Entry.{Entry}
 use Rattle.history_core.specs.declared.path.Path.{Path}
+use Rattle.history_core.specs.declared.path.Promoted.{Promoted}
 use Rattle.history_core.specs.declared.rule_match.RuleMatch.{RuleMatch}
 use Rattle.history_core.specs.Events.{message_in, Promotion, promotion_in, is_stopped, settled_in, taken_in, resumed_in, is_this}
-use Rattle.history_core.specs.History.{along_from, along, messages, message_with, has_id, has_stopped, last_moment, Promoted, path_for, promoted_at, promotions, is_same_path, with_path, paths, path_named, text_of}
+use Rattle.history_core.specs.History.{along_from, along, messages, message_with, has_id, has_stopped, last_moment, path_for, promoted_at, promotions, is_same_path, with_path, paths, path_named, text_of}
 use Rattle.history_core.specs.Fate.{fate_of, pending}
 use Rattle.history_core.specs.Retry.{failures_after, failures, due_after, due}
 use Rattle.history_core.specs.LiveOrders.{given_order_in, orders, is_resumed}
