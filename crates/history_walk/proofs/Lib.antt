@@ -1,2 +1,4 @@
 pub mod ListWalks
 pub mod OpenWalks
+pub mod RuleWalks
+pub mod SiteWalks

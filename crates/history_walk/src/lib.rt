@@ -2,7 +2,9 @@
 //! list of entries, legal or not.
 #![tactic(auto)]
 
+mod automation;
 mod connections;
+mod limits;
 mod messages;
 mod openable;
 mod orders;

@@ -37,5 +37,5 @@ pub use settings::{
     DEFAULT_EHLO, DEFAULT_MAX_AGE, DEFAULT_RETRY_INTERVAL, Layer, Settings, UNSPECIFIED,
 };
 pub use shaping::{DomainShape, Match, Provider, ShapeTable, Shaping, SourceTable};
-pub use site::{PathBase, Site};
+pub use site::{PathBase, Site, are_same_texts};
 pub use sources::{Entrant, Pool, Source, Sources};

@@ -18,7 +18,7 @@ mod values;
 use policy_core::Queues;
 use policy_fault::{Ignored, PolicyFault, PolicyFile};
 use policy_toml::open_document;
-pub use settings::settings_for;
+pub use settings::{RetrySettings, ages_of, pool_name_of, settings_for};
 use std::alloc::Global;
 
 /// The layers of all queues and the keys that have no effect, from the bytes of a queues file (TOML). Durations are in

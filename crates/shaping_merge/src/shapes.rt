@@ -58,7 +58,7 @@ fn add_shape<'p>(
         (get_by_text rollups.old shape.now.domain) shape.now) }
 {
     let domain = shape.domain.as_str();
-    if add_rollup(alloc, rollups, shape)? && is_at(alloc, policy, shape.rollup, site, domain)? {
+    if add_rollup(alloc, rollups, shape)? && is_at(policy, shape.rollup, site, domain) {
         at_site.push(shape)?;
     }
     Ok(())
