@@ -8,6 +8,7 @@ use Rattle.std.proofs.lemmas.List.{drop-append-le, drop_all, length_push, map-ap
 use Rattle.std.proofs.lemmas.List.Elements.{All-append, All-cons, All-nil, All-weaker, Contains-append_left, filter-append, filter_agree, filter_map-append}
 use Rattle.std.proofs.lemmas.List.Folds.{find-append, list_any-append}
 use Rattle.std.proofs.lemmas.List.Sums.{fold-append, sum_by-append}
+use Rattle.kumo_base.specs.Moment.{clamped}
 use Rattle.queue_name.specs.declared.message.Message.{Message}
 use Rattle.policy_core.specs.Policy.{Policy}
 use Rattle.policy_core.specs.declared.sources.Pool.{Pool}
@@ -204,9 +205,9 @@ pub opened_moments-more : (h : List Entry) (e : Entry) (path : List ℕ) (key : 
     → opened_moments (h ++ e ∷ []) path key ≡ opened_moments h path key ++ opened_moments (e ∷ []) path key
 opened_moments-more h e path key =
     let counts = λ (c : Connection). bytes_eq c.path path && eqb c.key key in
-    ap (λ cs. map (λ (c : Connection). c.at) (filter counts cs)) (connections-more h e)
-    ∙ ap (map (λ (c : Connection). c.at)) (filter-append counts (connections h) (connections (e ∷ [])))
-    ∙ map-append (λ (c : Connection). c.at) (filter counts (connections h)) (filter counts (connections (e ∷ [])))
+    ap (λ cs. map (λ (c : Connection). clamped c.at) (filter counts cs)) (connections-more h e)
+    ∙ ap (map (λ (c : Connection). clamped c.at)) (filter-append counts (connections h) (connections (e ∷ [])))
+    ∙ map-append (λ (c : Connection). clamped c.at) (filter counts (connections h)) (filter counts (connections (e ∷ [])))
 
 pub passages-more : (h : List Entry) (e : Entry) (path : List ℕ) → passages (h ++ e ∷ []) path ≡ passages h path ++ passage_at path h e
 passages-more h e path = along-more (passage_at path) h e
