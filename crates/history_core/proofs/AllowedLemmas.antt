@@ -33,11 +33,15 @@ use Rattle.history_core.proofs.LegalLemmas.{IsLegal-front, IsLegal-at}
 use Rattle.history_core.proofs.Picked.{at_work, first_there, opened_next}
 use Rattle.history_core.proofs.Settling.{live_opened, ready-pending}
 
+-- a moment up to the latest is itself
+pub clamped_within : (t : ℕ) → t ≤ latest_moment → clamped t ≡ t
+clamped_within t within = omega (arith, within)
+
 -- what a rate admits keeps it
 keeps_rate : (rate : Option Throttle) (moments : List ℕ) (t : ℕ) → t ≤ latest_moment → admits rate moments t ≡ true → KeepsRate rate (moments ++ t ∷ [])
 keeps_rate None moments t within is = tt
 keeps_rate (Some s) moments t within is =
-    let same : clamped t ≡ t = omega (arith, within) in
+    let same : clamped t ≡ t = clamped_within t within in
     (conforms_decides s (moments ++ t ∷ [])).0 (subst (λ u. conforms s (moments ++ u ∷ []) ≡ true) same is)
 
 -- no order of those that bounce a message lets it go

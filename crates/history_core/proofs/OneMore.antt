@@ -8,14 +8,16 @@ use Rattle.std.proofs.lemmas.List.{drop-append-le, drop_all, length_push, map-ap
 use Rattle.std.proofs.lemmas.List.Elements.{All-append, All-cons, All-nil, All-weaker, Contains-append_left, filter-append, filter_agree, filter_map-append}
 use Rattle.std.proofs.lemmas.List.Folds.{find-append, list_any-append}
 use Rattle.std.proofs.lemmas.List.Sums.{fold-append, sum_by-append}
+use Rattle.kumo_base.specs.Moment.{clamped}
 use Rattle.queue_name.specs.declared.message.Message.{Message}
 use Rattle.policy_core.specs.Policy.{Policy}
 use Rattle.policy_core.specs.declared.sources.Pool.{Pool}
 use Rattle.history_core.specs.declared.entry.Entry.{Entry}
 use Rattle.history_core.specs.declared.path.Path.{Path}
+use Rattle.history_core.specs.declared.path.Promoted.{Promoted}
 use Rattle.history_core.specs.declared.rule_match.RuleMatch.{RuleMatch}
 use Rattle.history_core.specs.Events.{message_in, Promotion, promotion_in, is_stopped, settled_in, taken_in, resumed_in, is_this}
-use Rattle.history_core.specs.History.{along_from, along, messages, message_with, has_id, has_stopped, last_moment, Promoted, path_for, promoted_at, promotions, is_same_path, with_path, paths, path_named, text_of}
+use Rattle.history_core.specs.History.{along_from, along, messages, message_with, has_id, has_stopped, last_moment, path_for, promoted_at, promotions, is_same_path, with_path, paths, path_named, text_of}
 use Rattle.history_core.specs.Fate.{fate_of, pending}
 use Rattle.history_core.specs.Retry.{failures_after, failures, due_after, due}
 use Rattle.history_core.specs.LiveOrders.{given_order_in, orders, is_resumed}
@@ -203,9 +205,9 @@ pub opened_moments-more : (h : List Entry) (e : Entry) (path : List ℕ) (key : 
     → opened_moments (h ++ e ∷ []) path key ≡ opened_moments h path key ++ opened_moments (e ∷ []) path key
 opened_moments-more h e path key =
     let counts = λ (c : Connection). bytes_eq c.path path && eqb c.key key in
-    ap (λ cs. map (λ (c : Connection). c.at) (filter counts cs)) (connections-more h e)
-    ∙ ap (map (λ (c : Connection). c.at)) (filter-append counts (connections h) (connections (e ∷ [])))
-    ∙ map-append (λ (c : Connection). c.at) (filter counts (connections h)) (filter counts (connections (e ∷ [])))
+    ap (λ cs. map (λ (c : Connection). clamped c.at) (filter counts cs)) (connections-more h e)
+    ∙ ap (map (λ (c : Connection). clamped c.at)) (filter-append counts (connections h) (connections (e ∷ [])))
+    ∙ map-append (λ (c : Connection). clamped c.at) (filter counts (connections h)) (filter counts (connections (e ∷ [])))
 
 pub passages-more : (h : List Entry) (e : Entry) (path : List ℕ) → passages (h ++ e ∷ []) path ≡ passages h path ++ passage_at path h e
 passages-more h e path = along-more (passage_at path) h e

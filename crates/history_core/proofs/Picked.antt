@@ -11,7 +11,8 @@ use Rattle.history_core.specs.declared.entry.Entry.{Entry}
 use Rattle.history_core.specs.declared.entry.Event.{Event}
 use Rattle.history_core.specs.declared.entry.Event.TheVariants.{Promoted as promoted}
 use Rattle.history_core.specs.declared.path.Path.{Path}
-use Rattle.history_core.specs.History.{messages, has_id, Promoted, is_same_path, path_named, text_of, paths}
+use Rattle.history_core.specs.declared.path.Promoted.{Promoted}
+use Rattle.history_core.specs.History.{messages, has_id, is_same_path, path_named, text_of, paths}
 use Rattle.history_core.specs.Fate.{fate_of, pending}
 use Rattle.history_core.specs.Retry.{due}
 use Rattle.history_core.specs.Connection.{Connection, connection_with, open_connections, used}

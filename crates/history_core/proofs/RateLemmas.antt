@@ -5,6 +5,7 @@ use Rattle.std.specs.Option.{option_or, option_and_then}
 use Rattle.std.proofs.lemmas.Bool.{and_parts, eq-eqb, eqb-true, ne_eqb}
 use Rattle.std.proofs.lemmas.Option.{same_Some}
 use Rattle.std.proofs.lemmas.Slice.Eq.{bytes_eq-Decides}
+use Rattle.kumo_base.specs.Moment.{clamped}
 use Rattle.throttle_spec.specs.Throttle.{Throttle, Conforms}
 use Rattle.policy_core.specs.Policy.{Policy}
 use Rattle.policy_core.specs.Layers.{last_set}
@@ -27,7 +28,7 @@ use Rattle.history_core.specs.KeyRates.{rate_under, message_rate_of_key, connect
 use Rattle.history_core.proofs.Lists.{there_none, there_first, there_later, there_cases, filter_there, find_none}
 use Rattle.history_core.proofs.LegalLemmas.{IsLegal-along}
 use Rattle.history_core.proofs.OneMore.{path_named-kept, paths-kept, opened_moments-more, begun_moments-more}
-use Rattle.history_core.proofs.AllowedLemmas.{opening, attempt}
+use Rattle.history_core.proofs.AllowedLemmas.{clamped_within, opening, attempt}
 
 -- the last of the rules that set an option gives both the rate and the key
 record SetsLast (option : Setting → Option Throttle) (rules : List (ℕ × Rule)) : Type 0 where
@@ -135,11 +136,11 @@ record AddsMoment (policy : Policy) (h : List Entry) (e : Entry) (text : List �
 text_same : (o : Option (List ℕ)) (found text : List ℕ) → o ≡ Some found → is_text o text ≡ true → found ≡ text
 text_same o found text is passes = (bytes_eq-Decides found text).0 (ap (λ o. is_text o text) (sym is) ∙ passes)
 
-adds_begun : (policy : Policy) (h : List Entry) (at who conn id of : ℕ) (text : List ℕ) (key : ℕ) → AllowsAttempt policy h at conn id of
+adds_begun : (policy : Policy) (h : List Entry) (at who conn id of : ℕ) (text : List ℕ) (key : ℕ) → clamped at ≡ at → AllowsAttempt policy h at conn id of
     → (b : Bool) → (eqb of key && is_text (path_of_connection h conn) text) ≡ b
     → (begun_at text key h (record { at = at; who = who; what = Begun conn id of }) ≡ []) ⊎ AddsMoment policy h (record { at = at; who = who; what = Begun conn id of }) text key
-adds_begun policy h at who conn id of text key allows false is = inl (ap (λ b. cond b (at ∷ []) []) is)
-adds_begun policy h at who conn id of text key allows true is =
+adds_begun policy h at who conn id of text key moment allows false is = inl (ap (λ b. cond b (clamped at ∷ []) []) is)
+adds_begun policy h at who conn id of text key moment allows true is =
     let (same, passes) = and_parts (eqb of key) (is_text (path_of_connection h conn) text) is in
     let it : of ≡ key = eqb-true of key same in
     let found : path_of_connection h conn ≡ Some allows.connection.path = ap (option_map (λ (c : Connection). c.path)) allows.was_opened in
@@ -147,7 +148,7 @@ adds_begun policy h at who conn id of text key allows true is =
     inr (record {
       path = allows.path;
       named = subst (λ x. path_named policy h x ≡ Some allows.path) text_is allows.has_path;
-      moment = ap (λ b. cond b (at ∷ []) []) is;
+      moment = ap (λ b. cond b (clamped at ∷ []) []) is ∙ ap (λ t. t ∷ []) moment;
       keyed = sym it ∙ allows.has_key;
       rate = subst (λ k. KeepsRate (limits policy h at allows.path).message_rate (begun_moments h text k ++ at ∷ [])) it
           (subst (λ x. KeepsRate (limits policy h at allows.path).message_rate (begun_moments h x of ++ at ∷ [])) text_is allows.rate);
@@ -156,7 +157,7 @@ adds_begun policy h at who conn id of text key allows true is =
 adds : (policy : Policy) (h : List Entry) → IsLegal policy h → (at who : ℕ) (e : Event) (text : List ℕ) (key : ℕ) → MayFollow policy h (record { at = at; who = who; what = e })
     → (begun_at text key h (record { at = at; who = who; what = e }) ≡ []) ⊎ AddsMoment policy h (record { at = at; who = who; what = e }) text key
 adds policy h legal at who (Begun conn id of) text key follows =
-    adds_begun policy h at who conn id of text key (attempt policy h at who conn id of legal follows.proper.moment follows.row)
+    adds_begun policy h at who conn id of text key (clamped_within at follows.proper.moment) (attempt policy h at who conn id of legal follows.proper.moment follows.row)
     (eqb of key && is_text (path_of_connection h conn) text) refl
 adds policy h legal at who _ text key follows = inl refl
 
@@ -225,13 +226,13 @@ record AddsOpening (policy : Policy) (h : List Entry) (e : Entry) (text : List �
   keyed : key ≡ (limits policy h e.at path).connection_key
   rate : KeepsRate (limits policy h e.at path).connection_rate (opened_moments h text key ++ e.at ∷ [])
 
-adds_opened : (policy : Policy) (h : List Entry) (at who conn : ℕ) (of : List ℕ) (under : ℕ) (text : List ℕ) (key : ℕ) → AllowsOpening policy h at of under
+adds_opened : (policy : Policy) (h : List Entry) (at who conn : ℕ) (of : List ℕ) (under : ℕ) (text : List ℕ) (key : ℕ) → clamped at ≡ at → AllowsOpening policy h at of under
     → (b : Bool) → (bytes_eq of text && eqb under key) ≡ b
     → (opened_moments (record { at = at; who = who; what = Opened conn of under } ∷ []) text key ≡ [])
     ⊎ AddsOpening policy h (record { at = at; who = who; what = Opened conn of under }) text key
-adds_opened policy h at who conn of under text key allows false is =
-    inl (ap (λ b. map (λ (c : Connection). c.at) (cond b (record { number = conn; path = of; who = who; at = at; key = under } ∷ []) [])) is)
-adds_opened policy h at who conn of under text key allows true is =
+adds_opened policy h at who conn of under text key moment allows false is =
+    inl (ap (λ b. map (λ (c : Connection). clamped c.at) (cond b (record { number = conn; path = of; who = who; at = at; key = under } ∷ []) [])) is)
+adds_opened policy h at who conn of under text key moment allows true is =
     let (passes, same) = and_parts (bytes_eq of text) (eqb under key) is in
     let it : under ≡ key = eqb-true under key same in
     let text_is : of ≡ text = (bytes_eq-Decides of text).0 passes in
@@ -239,7 +240,8 @@ adds_opened policy h at who conn of under text key allows true is =
       path = allows.path;
       there = allows.is_path;
       has_text = sym allows.has_text ∙ text_is;
-      moment = ap (λ b. map (λ (c : Connection). c.at) (cond b (record { number = conn; path = of; who = who; at = at; key = under } ∷ []) [])) is;
+      moment = ap (λ b. map (λ (c : Connection). clamped c.at) (cond b (record { number = conn; path = of; who = who; at = at; key = under } ∷ []) [])) is
+          ∙ ap (λ t. t ∷ []) moment;
       keyed = sym it ∙ allows.has_key;
       rate = subst (λ k. KeepsRate (limits policy h at allows.path).connection_rate (opened_moments h text k ++ at ∷ [])) it
           (subst (λ x. KeepsRate (limits policy h at allows.path).connection_rate (opened_moments h x under ++ at ∷ [])) text_is allows.rate);
@@ -248,7 +250,7 @@ adds_opened policy h at who conn of under text key allows true is =
 opens : (policy : Policy) (h : List Entry) → IsLegal policy h → (at who : ℕ) (e : Event) (text : List ℕ) (key : ℕ) → MayFollow policy h (record { at = at; who = who; what = e })
     → (opened_moments (record { at = at; who = who; what = e } ∷ []) text key ≡ []) ⊎ AddsOpening policy h (record { at = at; who = who; what = e }) text key
 opens policy h legal at who (Opened conn of under) text key follows =
-    adds_opened policy h at who conn of under text key (opening policy h at who conn of under legal follows.proper.moment follows.row)
+    adds_opened policy h at who conn of under text key (clamped_within at follows.proper.moment) (opening policy h at who conn of under legal follows.proper.moment follows.row)
     (bytes_eq of text && eqb under key) refl
 opens policy h legal at who _ text key follows = inl refl
 

@@ -14,8 +14,9 @@ use Rattle.history_core.specs.declared.entry.Event.TheVariants.{Promoted as prom
 use Rattle.history_core.specs.declared.entry.Next.{Next}
 use Rattle.history_core.specs.declared.entry.How.{How}
 use Rattle.history_core.specs.declared.path.Path.{Path}
+use Rattle.history_core.specs.declared.path.Promoted.{Promoted}
 use Rattle.history_core.specs.Events.{is_final, settled_in, taken_in, is_this}
-use Rattle.history_core.specs.History.{Promoted, promoted_at, messages, message_with, path_for}
+use Rattle.history_core.specs.History.{promoted_at, messages, message_with, path_for}
 use Rattle.history_core.specs.Fate.{fate_of, pending}
 use Rattle.history_core.specs.LiveOrders.{bounced_by}
 use Rattle.history_core.specs.Retry.{is_aged, due}
