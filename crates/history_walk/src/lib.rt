@@ -7,3 +7,4 @@ mod connections;
 mod limits;
 mod messages;
 mod orders;
+mod rates;
