@@ -2,3 +2,5 @@ pub mod ListWalks
 pub mod OpenWalks
 pub mod RuleWalks
 pub mod SiteWalks
+pub mod RateWalks
+pub mod OneMore

@@ -8,3 +8,4 @@ mod limits;
 mod messages;
 mod openable;
 mod orders;
+mod rates;
