@@ -1,2 +1,6 @@
 pub mod ListWalks
 pub mod OpenWalks
+pub mod Along
+pub mod SamePaths
+pub mod KnownPaths
+pub mod ReadyCount

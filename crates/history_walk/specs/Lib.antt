@@ -1,3 +1,4 @@
 pub mod Opened
 pub mod GivenNow
 pub mod Pending
+pub mod Known

@@ -2,6 +2,12 @@
 //! list of entries, legal or not.
 #![tactic(auto)]
 
+mod automation;
+mod candidates;
 mod connections;
 mod messages;
 mod orders;
+mod paths;
+mod ready;
+mod refusals;
+mod rotation;

@@ -17,7 +17,7 @@ mod values;
 
 use policy_core::{Ignored, PolicyFault, PolicyFile, Queues};
 use policy_toml::open_document;
-pub use settings::settings_for;
+pub use settings::{RetrySettings, ages_of, pool_name_of, settings_for};
 use std::alloc::Global;
 
 /// The layers of all queues and the keys that have no effect, from the bytes of a queues file (TOML). Durations are in
