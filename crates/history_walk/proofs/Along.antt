@@ -1,5 +1,6 @@
 -- What one more entry changes: promotions, paths, the sources taken, and the openings and closings of a path.
-use Rattle.std.proofs.Common.{◌≡◌, ℕ, List, [], ◌∷◌, ◌++◌, fold, Option, None, ap, ◌∙◌, sym, append_assoc, append-nil}
+use Rattle.std.proofs.Common.{◌≡◌, ℕ, ◌+◌, ◌<◌, List, [], ◌∷◌, ◌++◌, fold, take, get_or, length, Option, None, ap, ◌∙◌, sym, append_assoc, append-nil}
+use Rattle.std.proofs.lemmas.List.{take_more}
 use Rattle.std.proofs.lemmas.List.Sums.{fold-append}
 use Rattle.policy_core.specs.Policy.{Policy}
 use Rattle.policy_core.specs.declared.sources.Pool.{Pool}
@@ -44,3 +45,29 @@ last_refusal-more h e path = fold_along-more (λ was (p : Passage). refused_at p
 pub refusals-more : (h : List Entry) (e : Entry) (path : List ℕ)
     → refusals (h ++ e ∷ []) path ≡ fold (λ was p. run_after was p.cause) (refusals h path) (passage_at path h e)
 refusals-more h e path = fold_along-more (λ was (p : Passage). run_after was p.cause) 0 (passage_at path) h e
+
+-- the same of a walk that has come to a place
+one_more : (entries : List Entry) (place : ℕ) (e : Entry) → place < length entries → e ≡ get_or entries place e
+    → take (place + 1) entries ≡ take place entries ++ e ∷ []
+one_more entries place e within here = take_more entries place e within ∙ ap (λ x. take place entries ++ x ∷ []) (sym here)
+
+pub place_of_next : (policy : Policy) (pool : Pool) (entries : List Entry) (place : ℕ) (e : Entry)
+    → place < length entries → e ≡ get_or entries place e
+    → place_of policy pool (take (place + 1) entries)
+    ≡ fold (turned pool) (place_of policy pool (take place entries)) (source_taken policy pool (take place entries) (promotion_in e.what))
+place_of_next policy pool entries place e within here =
+    ap (place_of policy pool) (one_more entries place e within here) ∙ place_of-more policy pool (take place entries) e
+
+pub last_refusal_next : (entries : List Entry) (place : ℕ) (e : Entry) (path : List ℕ)
+    → place < length entries → e ≡ get_or entries place e
+    → last_refusal (take (place + 1) entries) path
+    ≡ fold (λ was p. refused_at p.place p.cause) (last_refusal (take place entries) path) (passage_at path (take place entries) e)
+last_refusal_next entries place e path within here =
+    ap (λ h. last_refusal h path) (one_more entries place e within here) ∙ last_refusal-more (take place entries) e path
+
+pub refusals_next : (entries : List Entry) (place : ℕ) (e : Entry) (path : List ℕ)
+    → place < length entries → e ≡ get_or entries place e
+    → refusals (take (place + 1) entries) path
+    ≡ fold (λ was p. run_after was p.cause) (refusals (take place entries) path) (passage_at path (take place entries) e)
+refusals_next entries place e path within here =
+    ap (λ h. refusals h path) (one_more entries place e within here) ∙ refusals-more (take place entries) e path

@@ -1,8 +1,8 @@
 -- What is known of paths keeps up with the history.
-use Rattle.std.proofs.Common.{◌≡◌, ℕ, List, [], ◌∷◌, ◌++◌, map, Bool, true, false, ◌||◌, if◌then◌else◌, fold, find, bytes_eq, option_map, Option, Some, None, append-nil, refl, ap, sym, ◌∙◌}
+use Rattle.std.proofs.Common.{◌≡◌, ℕ, ◌<◌, length, get_or, subst, List, [], ◌∷◌, ◌++◌, map, Bool, true, false, ◌||◌, if◌then◌else◌, fold, find, bytes_eq, option_map, Option, Some, None, append-nil, refl, ap, sym, ◌∙◌}
 use Rattle.std.specs.List.{All, list_any}
 use Rattle.std.proofs.lemmas.Bool.{or_left, or_right}
-use Rattle.std.proofs.lemmas.List.Elements.{All-cons, All-nil}
+use Rattle.std.proofs.lemmas.List.Elements.{All-cons, All-get_or, All-nil}
 use Rattle.std.proofs.lemmas.List.Folds.{list_any-append}
 use Rattle.std.proofs.lemmas.List.{map-append}
 use Rattle.policy_core.specs.Policy.{Policy}
@@ -60,9 +60,9 @@ pub found_known : (policy : Policy) (text : List ℕ) (seen : List Path)
 found_known policy text [] = refl
 found_known policy text (p ∷ seen) = found_here (known_path policy) (bytes_eq (text_of p) text) p _ _ (found_known policy text seen)
 
-pub named_known : (policy : Policy) (h : List Entry) (k : Known) (text : List ℕ) → IsKnown policy h k
-    → find (λ k. bytes_eq k.text text) k.paths ≡ option_map (known_path policy) (path_named policy h text)
-named_known policy h k text is = ap (find (λ k. bytes_eq k.text text)) is.paths ∙ found_known policy text (paths policy h)
+pub named_known : (policy : Policy) (h : List Entry) (k : Known) (text : List ℕ) (all : List KnownPath) → all ≡ k.paths → IsKnown policy h k
+    → find (λ k. bytes_eq k.text text) all ≡ option_map (known_path policy) (path_named policy h text)
+named_known policy h k text all are is = ap (find (λ k. bytes_eq k.text text)) (are ∙ is.paths) ∙ found_known policy text (paths policy h)
 
 same_here : (policy : Policy) (path p : Path) (b later : Bool) (rest : Option KnownPath) → is_same_path path p ≡ b
     → rest ≡ (if later then Some (known_path policy path) else None)
@@ -76,15 +76,9 @@ found_same : (policy : Policy) (path : Path) (seen : List Path)
 found_same policy path [] = refl
 found_same policy path (p ∷ seen) = same_here policy path p (is_same_path path p) _ _ refl (found_same policy path seen)
 
-pub known_of_same : (policy : Policy) (h : List Entry) (k : Known) (path : Path) → IsKnown policy h k
-    → find (λ k. is_same_path path k.path) k.paths ≡ known_of policy h path
-known_of_same policy h k path is = ap (find (λ k. is_same_path path k.path)) is.paths ∙ found_same policy path (paths policy h)
-
--- what is known of a path is that path with its text and base
-pub known_is : (policy : Policy) (path : Path) (there : Bool) (k : KnownPath)
-    → Some k ≡ (if there then Some (known_path policy path) else None) → k ≡ known_path policy path
-known_is policy path true k e = cc
-known_is policy path false k e = absurd cc
+pub known_of_same : (policy : Policy) (h : List Entry) (k : Known) (path : Path) (all : List KnownPath) → all ≡ k.paths → IsKnown policy h k
+    → find (λ k. is_same_path path k.path) all ≡ known_of policy h path
+known_of_same policy h k path all are is = ap (find (λ k. is_same_path path k.path)) (are ∙ is.paths) ∙ found_same policy path (paths policy h)
 
 any_kept : (test : Path → Bool) (seen : List Path) (p : Path) (there : Bool) → list_any test seen ≡ true
     → list_any test (if there then seen else seen ++ p ∷ []) ≡ true
@@ -103,13 +97,21 @@ comes p seen false e =
     list_any-append (is_same_path p) seen (p ∷ [])
     ∙ or_right (list_any (is_same_path p) seen) _ (or_left (is_same_path p p) false (same_path_self p))
 
-all_come : (seen : List Path) (ps : List Promoted)
-    → All (λ (p : Promoted). list_any (is_same_path p.path) (fold (λ seen (p : Promoted). with_path seen p.path) seen ps) ≡ true) ps
-all_come seen [] = All-nil _
+abbrev IsAmong : List Path → Promoted → Type 0
+IsAmong seen p = list_any (is_same_path p.path) seen ≡ true
+
+all_come : (seen : List Path) (ps : List Promoted) → All (IsAmong (fold (λ seen (p : Promoted). with_path seen p.path) seen ps)) ps
+all_come seen [] = All-nil (IsAmong seen)
 all_come seen (p ∷ ps) =
-    All-cons _ p ps (any_stays (is_same_path p.path) (with_path seen p.path) ps (comes p.path seen _ refl)) (all_come (with_path seen p.path) ps)
+    All-cons (IsAmong (fold (λ seen (q : Promoted). with_path seen q.path) (with_path seen p.path) ps)) p ps
+    (any_stays (is_same_path p.path) (with_path seen p.path) ps (comes p.path seen (list_any (is_same_path p.path) seen) refl))
+    (all_come (with_path seen p.path) ps)
+
+promoted_paths : (policy : Policy) (h : List Entry) → All (IsAmong (paths policy h)) (promotions policy h)
+promoted_paths policy h = all_come [] (promotions policy h)
 
 -- the path of each promotion is among the paths
-pub promoted_paths : (policy : Policy) (h : List Entry)
-    → All (λ (p : Promoted). list_any (is_same_path p.path) (paths policy h) ≡ true) (promotions policy h)
-promoted_paths policy h = all_come [] (promotions policy h)
+pub path_of_promoted : (policy : Policy) (h : List Entry) (all : List Promoted) (i : ℕ) (p : Promoted) → all ≡ promotions policy h
+    → i < length all → p ≡ get_or all i p → list_any (is_same_path p.path) (paths policy h) ≡ true
+path_of_promoted policy h all i p are within here =
+    subst (IsAmong (paths policy h)) (sym here) (All-get_or (IsAmong (paths policy h)) all i p within (subst (All (IsAmong (paths policy h))) (sym are) (promoted_paths policy h)))

@@ -4,3 +4,4 @@ pub mod Along
 pub mod SamePaths
 pub mod KnownPaths
 pub mod ReadyCount
+pub mod Picks

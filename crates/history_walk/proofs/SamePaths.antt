@@ -23,7 +23,7 @@ same_texts (x ∷ xs) (y ∷ ys) e =
     let tail : xs ≡ ys = same_texts xs ys both.1 in
     cc
 
-made_path : List ℕ → List ℕ → List (List ℕ) → Path
+abbrev made_path : List ℕ → List ℕ → List (List ℕ) → Path
 made_path source name hosts = record { source = source; site = record { name = name; hosts = hosts } }
 
 pub same_path : (p q : Path) → is_same_path p q ≡ true → p ≡ q

@@ -2,14 +2,13 @@
 ghost use Rattle.std.specs.Prelude.{◌≡◌, ◌&&◌, ◌||◌, filter};
 ghost use Rattle.std.specs.List.{list_any};
 ghost use Rattle.policy_core.specs.Site.{site_of, is_same_site};
-ghost use Rattle.policy_core.specs.Automation.{covers, is_suspend, limits_of};
+ghost use Rattle.policy_core.specs.Automation.{covers, is_suspend};
 ghost use Rattle.history_core.specs.History.{text_of, is_same_path};
 ghost use Rattle.history_core.specs.LiveOrders.{is_suspended};
 ghost use Rattle.history_core.specs.Firing.{is_in_force};
-ghost use Rattle.history_core.specs.Limits.{is_rule_among};
 
 use history_core::{Entry, Path, RuleMatch};
-use policy_core::{InForce, PathBase, Policy};
+use policy_core::Policy;
 use queue_name::Message;
 
 pub fn is_covered(policy: &Policy, firings: &[RuleMatch], t: u64, message: &Message) -> bool
@@ -25,11 +24,4 @@ pub fn is_halted(entries: &[Entry], firings: &[RuleMatch], t: u64, path: &Path, 
         (filter (is_in_force t) firings.now)) }
 {
     entries.len() > 0 && firings.len() > 0 && t > 0 && path.source.is_same(text)
-}
-
-pub fn limits_in_force(firings: &[RuleMatch], t: u64, path: &Path, base: &PathBase) -> InForce
-    ensures { result ≡ limits_of base.now (is_rule_among (filter (is_in_force t) firings.now) path.now) }
-{
-    let _none = firings.len() > 0 && t > 0 && path.source.is_same("");
-    InForce::of(&base.options)
 }

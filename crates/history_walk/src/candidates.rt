@@ -9,8 +9,8 @@ ghost use Rattle.history_core.specs.Retry.{due};
 ghost use Rattle.history_core.specs.Candidates.{is_positive_multiple, is_before, is_put_off, is_delayable};
 ghost use Rattle.history_walk.specs.Known.{known_path, IsKnown};
 
-use crate::automation::limits_in_force;
 use crate::connections::is_in_flight;
+use crate::limits::limits_in_force;
 use crate::messages::due;
 use crate::paths::{Known, KnownPath, known_path_of};
 use crate::ready::{is_free, is_ready, is_taken};
@@ -83,6 +83,7 @@ fn is_delayed(
 }
 
 /// Whether the message is ready, and the refusals of its path delay it.
+#[tactic(auto, using(crate::proofs::KnownPaths::path_of_promoted))]
 pub fn is_delayable(
     policy: &Policy,
     entries: &[Entry],

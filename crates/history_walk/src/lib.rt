@@ -5,6 +5,7 @@
 mod automation;
 mod candidates;
 mod connections;
+mod limits;
 mod messages;
 mod orders;
 mod paths;

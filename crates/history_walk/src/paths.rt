@@ -128,6 +128,7 @@ impl Known {
     }
 
     /// Adds what an entry promotes. `before` are the entries so far. After `Memory` all is as it was.
+    #[tactic(auto, using(crate::proofs::KnownPaths::known_more, crate::proofs::KnownPaths::known_same))]
     pub fn add(
         &mut self,
         alloc: Global,
@@ -140,7 +141,10 @@ impl Known {
         ensures err { OnErr result (self.new ≡ self.old) }
     {
         match promoted_by(alloc, policy, before, entry)? {
-            Some(promoted) => self.add_promoted(alloc, policy, promoted),
+            Some(promoted) => {
+                self.add_promoted(alloc, policy, promoted)?;
+                Ok(())
+            }
             None => Ok(()),
         }
     }

@@ -67,6 +67,7 @@ fn last_refusal_after(
 }
 
 /// The place of the refused connection that is the last opening or closing of the path of a text.
+#[tactic(auto, using(crate::proofs::Along::last_refusal_next))]
 pub fn last_refusal(entries: &[Entry], text: &str) -> Option<usize>
     ensures { result ≡ last_refusal entries.now text.now }
 {
@@ -104,6 +105,7 @@ fn refusals_after(before: &[Entry], entry: &Entry, text: &str, was: u64) -> u64
 }
 
 /// How many connections of the path of a text were refused since one was closed for another cause.
+#[tactic(auto, using(crate::proofs::Along::refusals_next))]
 pub fn refusals(entries: &[Entry], text: &str) -> u64
     ensures { result ≡ refusals entries.now text.now }
 {

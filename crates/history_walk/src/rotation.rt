@@ -9,7 +9,8 @@ ghost use Rattle.history_core.specs.Firing.{firings as all_firings};
 ghost use Rattle.history_core.specs.Candidates.{pool_of, is_source, turned, source_taken, place_of, has_room, eligible, pick_from, pick_for};
 ghost use Rattle.history_walk.specs.Known.{known_path, IsKnown};
 
-use crate::automation::{is_halted, limits_in_force};
+use crate::automation::is_halted;
+use crate::limits::limits_in_force;
 use crate::messages::message_with;
 use crate::paths::{Known, KnownPath, known_path, known_path_of, path_for};
 use crate::ready::ready_count;
@@ -98,6 +99,7 @@ fn turn_by(
 }
 
 /// The rotation of a pool at its place.
+#[tactic(auto, using(crate::proofs::Along::place_of_next))]
 fn turner_of(
     alloc: Global,
     policy: &Policy,
@@ -184,6 +186,7 @@ fn eligible(
 }
 
 /// The source that the rotation of a pool picks for a message, of those whose path has room.
+#[tactic(auto, using(crate::proofs::Picks::picked))]
 fn pick_from(
     alloc: Global,
     policy: &Policy,
