@@ -128,7 +128,6 @@ impl Known {
     }
 
     /// Adds what an entry promotes. `before` are the entries so far. After `Memory` all is as it was.
-    #[tactic(auto, using(crate::proofs::KnownPaths::known_more, crate::proofs::KnownPaths::known_same))]
     pub fn add(
         &mut self,
         alloc: Global,

@@ -186,7 +186,6 @@ fn eligible(
 }
 
 /// The source that the rotation of a pool picks for a message, of those whose path has room.
-#[tactic(auto, using(crate::proofs::Picks::picked))]
 fn pick_from(
     alloc: Global,
     policy: &Policy,
