@@ -1,2 +1,1 @@
 pub mod LegalLemmas
-pub mod SameTexts

@@ -1,7 +1,5 @@
 //! A path: a source and a site. A message has one for each source that it may leave by.
 ghost use Rattle.std.specs.Prelude.{◌≡◌, IfOk};
-ghost use Rattle.policy_core.specs.Site.{are_same_texts};
-ghost use Rattle.history_core.specs.History.{is_same_path};
 
 use kumo_base::{Memory, Text};
 use policy_core::Site;
@@ -35,28 +33,4 @@ impl Path {
             site: self.site.copy(alloc)?,
         })
     }
-
-    /// Whether two paths have the same source and the same site.
-    pub fn is_same(&self, other: &Path) -> bool
-        ensures { result ≡ is_same_path self.now other.now }
-    {
-        self.source.is_same(other.source.as_str())
-            && self.site.name.is_same(other.site.name.as_str())
-            && are_same_texts(self.site.hosts.as_slice(), other.site.hosts.as_slice())
-    }
-}
-
-/// Whether two lists have the same texts in the same order.
-fn are_same_texts(texts: &[Text], others: &[Text]) -> bool
-    ensures { result ≡ are_same_texts texts.now others.now }
-{
-    if texts.len() != others.len() {
-        return false;
-    }
-    for place in 0..texts.len() {
-        if !texts[place].is_same(others[place].as_str()) {
-            return false;
-        }
-    }
-    true
 }
