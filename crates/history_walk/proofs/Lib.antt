@@ -4,3 +4,8 @@ pub mod RuleWalks
 pub mod SiteWalks
 pub mod RateWalks
 pub mod OneMore
+pub mod Along
+pub mod SamePaths
+pub mod KnownPaths
+pub mod ReadyCount
+pub mod Picks

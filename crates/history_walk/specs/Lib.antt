@@ -1,4 +1,5 @@
 pub mod Opened
 pub mod GivenNow
 pub mod Pending
+pub mod Known
 pub mod inside

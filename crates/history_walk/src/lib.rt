@@ -3,9 +3,14 @@
 #![tactic(auto)]
 
 mod automation;
+mod candidates;
 mod connections;
 mod limits;
 mod messages;
 mod openable;
 mod orders;
 mod rates;
+mod paths;
+mod ready;
+mod refusals;
+mod rotation;

@@ -51,7 +51,7 @@ fn is_final(next: Next) -> bool
 }
 
 /// Whether the entry settles the message.
-fn settles(entry: &Entry, id: u128) -> bool
+pub fn settles(entry: &Entry, id: u128) -> bool
     ensures { result ≡ is_this (settled_in entry.now.what) id }
 {
     match &entry.what {
