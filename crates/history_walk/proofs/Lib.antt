@@ -4,3 +4,4 @@ pub mod RuleWalks
 pub mod SiteWalks
 pub mod RateWalks
 pub mod OneMore
+pub mod FiringWalks

@@ -1,4 +1,5 @@
 pub mod Opened
 pub mod GivenNow
 pub mod Pending
+pub mod Examined
 pub mod inside

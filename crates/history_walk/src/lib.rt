@@ -4,7 +4,10 @@
 
 mod automation;
 mod connections;
+mod examine;
 mod limits;
+mod matching;
 mod messages;
 mod orders;
+mod paths;
 mod rates;
