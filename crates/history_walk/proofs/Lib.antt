@@ -5,3 +5,4 @@ pub mod SiteWalks
 pub mod RateWalks
 pub mod OneMore
 pub mod FiringWalks
+pub mod MatchWalks
