@@ -58,7 +58,11 @@ impl Examined {
     }
 
     /// Adds matches and firings. After `Memory` all is as it was.
-    fn add(&mut self, mut matches: Vec<RuleMatch>, mut firings: Vec<RuleMatch>) -> Result<(), Memory>
+    fn add(
+        &mut self,
+        mut matches: Vec<RuleMatch>,
+        mut firings: Vec<RuleMatch>,
+    ) -> Result<(), Memory>
         ensures matches { OnOk result (self.new.matches ≡ self.old.matches ++ matches.items) }
         ensures firings { OnOk result (self.new.firings ≡ self.old.firings ++ firings.items) }
         ensures err { OnErr result (self.new ≡ self.old) }

@@ -58,7 +58,13 @@ fn refusal_at(
 ) -> Result<Option<Refusal>, Memory>
     ensures { IfOk result (λ refusal. option_map refusal_of refusal ≡ refusal_at policy.now before.now entry.now) }
 {
-    let Event::Ended { conn, id, outcome, .. } = &entry.what else {
+    let Event::Ended {
+        conn,
+        id,
+        outcome,
+        ..
+    } = &entry.what
+    else {
         return Ok(None);
     };
     let Some(text) = refusal_text(outcome) else {
@@ -115,7 +121,12 @@ fn matches_of<S: Search>(
     ensures items { IfOk result (λ found. found.items ≡ matches_of policy.now (refusal_of refusal.now)) }
     ensures cause { HasSearchCause (S.seen search.old).faults (S.seen search.new).faults result }
 {
-    match path_base(alloc, policy, &refusal.path.site, refusal.path.source.as_str()) {
+    match path_base(
+        alloc,
+        policy,
+        &refusal.path.site,
+        refusal.path.source.as_str(),
+    ) {
         Ok(base) => matches_among(alloc, search, base.rules.as_slice(), refusal),
         Err(Memory) => Err(SearchFault::Memory),
     }
@@ -169,8 +180,13 @@ fn push_match(
     number: u64,
     rule: &Rule,
 ) -> Result<(), Memory>
-    ensures { OnOk result (found.new.items ≡ found.old.items ++ record { at = refusal.now.at; path = refusal.now.path;
-        number = number; rule = rule.now; name = refusal.now.name } ∷ []) }
+    ensures { OnOk result (found.new.items ≡ found.old.items ++ record {
+      at = refusal.now.at;
+      path = refusal.now.path;
+      number = number;
+      rule = rule.now;
+      name = refusal.now.name;
+    } ∷ []) }
 {
     let Ok(number) = u32::try_from(number) else {
         return Err(Memory);

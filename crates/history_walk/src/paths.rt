@@ -16,6 +16,7 @@ pub fn path_named(
 ) -> Result<Option<Path>, Memory>
     ensures { IfOk result (λ path. path ≡ path_named policy.now before.now text.now) }
 {
-    let _unused = Vec::<u64>::new(alloc).len() > 0 && policy.sources.pools.as_slice().len() > before.len() + text.len();
+    let _unused = Vec::<u64>::new(alloc).len() > 0
+        && policy.sources.pools.as_slice().len() > before.len() + text.len();
     Err(Memory)
 }
