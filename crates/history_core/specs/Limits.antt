@@ -10,7 +10,7 @@ use Rattle.policy_core.specs.declared.options.InForce.{InForce}
 use Rattle.history_core.specs.declared.entry.Entry.{Entry}
 use Rattle.history_core.specs.declared.path.Path.{Path}
 use Rattle.history_core.specs.declared.rule_match.RuleMatch.{RuleMatch}
-use Rattle.history_core.specs.Events.{Beginning, beginning_in, is_this}
+use Rattle.history_core.specs.Events.{Beginning, beginning_in}
 use Rattle.history_core.specs.History.{along, is_same_path}
 use Rattle.history_core.specs.Connection.{connections, path_of_connection}
 use Rattle.history_core.specs.Firing.{firings_in_force}

@@ -17,12 +17,18 @@ abbrev pub is_taken : List Entry → Promoted → Bool
 is_taken h p = list_any (λ e. is_this (taken_in e.what) p.id) (drop (p.place + 1) h)
 
 -- the promotions that stand: the messages were since then neither begun, nor delayed, nor settled
+abbrev pub standing_among : List Promoted → List Entry → List Promoted
+standing_among promotions h = filter (λ p. not (is_taken h p)) promotions
+
 abbrev pub standing_promotions : Policy → List Entry → List Promoted
-standing_promotions policy h = filter (λ p. not (is_taken h p)) (promotions policy h)
+standing_promotions policy h = standing_among (promotions policy h) h
 
 -- the ready messages of a path, in order of promotion
+abbrev pub ready_among : List Promoted → List Entry → Path → List ℕ
+ready_among promotions h path = map (λ p. p.id) (filter (λ p. is_same_path p.path path) (standing_among promotions h))
+
 abbrev pub ready : Policy → List Entry → Path → List ℕ
-ready policy h path = map (λ p. p.id) (filter (λ p. is_same_path p.path path) (standing_promotions policy h))
+ready policy h path = ready_among (promotions policy h) h path
 
 abbrev pub is_ready_after : ℕ → Bool → Event → Bool
 is_ready_after id was (promoted of source) = of == id || was

@@ -8,6 +8,7 @@ mod examine;
 mod limits;
 mod matching;
 mod messages;
+mod openable;
 mod orders;
 mod paths;
 mod rates;

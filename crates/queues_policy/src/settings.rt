@@ -2,7 +2,7 @@
 //!
 //! `settings_for` is asked for a queue's name, by `explain` today and by the registry later, which has to keep the answer:
 //! each call goes through the domains of the file. Layers are laid by reference, and only the pool's name is copied at the
-//! end, so that the one refusal is `Memory`.
+//! end, so that the one refusal is `Memory`. `pool_name_of` and `ages_of` have parts of the same answer, without memory.
 ghost use Rattle.std.specs.Prelude.{◌≡◌, [], IfOk, find, bytes_eq, unwrap_or, option_map, option_and_then};
 ghost use Rattle.policy_core.specs.Layers.{settings_of, settings_in, queues_of_domain, tenant_layer, layer_named};
 ghost use Rattle.queues_policy.specs.inside.LaidSettings.{settings_now, over, tenant_within, campaign_within};
@@ -14,6 +14,14 @@ use policy_core::{
 };
 use queue_name::QueueName;
 use std::alloc::Global;
+
+/// When the messages of a queue are tried again, and how old they may be. As in `Settings`, in milliseconds.
+#[derive(Clone, Copy)]
+pub struct RetrySettings {
+    pub max_age: u64,
+    pub retry_interval: u64,
+    pub max_retry_interval: Option<u64>,
+}
 
 /// Settings while layers are laid over one another, with the pool's name where it stands.
 #[derive(Clone, Copy)]
@@ -75,6 +83,27 @@ pub fn settings_for(alloc: Global, queues: &Queues, name: &QueueName) -> Result<
         max_retry_interval: settings.max_retry_interval,
         pool: Text::of(alloc, settings.pool)?,
     })
+}
+
+/// The name of the pool of a queue, where it stands.
+pub fn pool_name_of<'q>(queues: &'q Queues, name: &QueueName) -> &'q str
+    ensures { result.now ≡ (settings_of queues.now name.now).pool }
+{
+    in_force(queues, name).pool
+}
+
+/// The ages and delays of a queue.
+pub fn ages_of(queues: &Queues, name: &QueueName) -> RetrySettings
+    ensures max_age { result.max_age ≡ (settings_of queues.now name.now).max_age }
+    ensures retry_interval { result.retry_interval ≡ (settings_of queues.now name.now).retry_interval }
+    ensures max_retry_interval { result.max_retry_interval ≡ (settings_of queues.now name.now).max_retry_interval }
+{
+    let settings = in_force(queues, name);
+    RetrySettings {
+        max_age: settings.max_age,
+        retry_interval: settings.retry_interval,
+        max_retry_interval: settings.max_retry_interval,
+    }
 }
 
 /// The settings of a queue's name.

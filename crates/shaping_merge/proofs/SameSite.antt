@@ -4,7 +4,7 @@ use Rattle.std.proofs.lemmas.Slice.Eq.{bytes_eq-Decides}
 use Rattle.policy_core.specs.declared.shaping.DomainShape.{DomainShape}
 use Rattle.policy_core.specs.declared.site.Site.{Site}
 use Rattle.policy_core.specs.Policy.{Policy}
-use Rattle.policy_core.specs.Site.{shape_of, rollup_of, site_name, hosts_of, site_of, are_same_texts, is_at_site}
+use Rattle.policy_core.specs.Site.{domain_shape, rollup_of, site_name, hosts_of, site_of, are_same_texts, is_at_site}
 
 both_true : (a b : Bool) → (a && b) ≡ true → (a ≡ true) × (b ≡ true)
 both_true true b e = (refl, e)
@@ -40,7 +40,7 @@ other_hosts policy site domain e = and_false _ _ e
 
 -- with the same hosts the names decide
 pub same_hosts : (policy : Policy) (site : Site) (domain : List ℕ) (rollup : Bool)
-    → rollup ≡ rollup_of (shape_of policy.shaping domain) → are_same_texts (hosts_of policy domain) site.hosts ≡ true
+    → rollup ≡ rollup_of (domain_shape policy.shaping domain) → are_same_texts (hosts_of policy domain) site.hosts ≡ true
     → bytes_eq (site_name rollup domain site.hosts) site.name ≡ is_at_site policy site domain
 unfolding is_at_site site_of
 same_hosts policy site domain rollup r e =

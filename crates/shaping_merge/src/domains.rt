@@ -4,7 +4,7 @@
 //! come as a list; nothing is kept. The one refusal is `Memory`.
 ghost use Rattle.std.specs.Prelude.{◌≡◌, ◌++◌, ◌∷◌, [], IfOk, OnOk, map};
 ghost use Rattle.std.specs.List.{filter};
-ghost use Rattle.policy_core.specs.Site.{hosts_of, are_same_texts, is_at_site, own_domain, rollup_of, shape_of};
+ghost use Rattle.policy_core.specs.Site.{hosts_of, are_same_texts, is_at_site, own_domain, rollup_of, domain_shape};
 ghost use Rattle.policy_core.specs.PathTables.{firsts};
 ghost use Rattle.shaping_merge.specs.inside.Domains.{AreDomainsOf};
 ghost use Rattle.shaping_merge.specs.inside.Rollups.{AreRollups};
@@ -37,7 +37,7 @@ fn is_among(policy: &Policy, rollups: &BTreeMap<String, bool>, site: &Site, doma
 /// Whether a domain is at a site. `rollup` says whether the domain shares its site with others of the same hosts.
 #[tactic(auto, unfolding(policy_core::specs::Site::is_at_site, policy_core::specs::Site::site_of))]
 pub(crate) fn is_at(policy: &Policy, rollup: bool, site: &Site, domain: &str) -> bool
-    requires { rollup ≡ rollup_of (shape_of policy.now.shaping domain.now) }
+    requires { rollup ≡ rollup_of (domain_shape policy.now.shaping domain.now) }
     ensures { result ≡ is_at_site policy.now site.now domain.now }
 {
     let hosts = site.hosts.as_slice();

@@ -46,13 +46,13 @@ fn copy_texts(alloc: Global, texts: &[Text]) -> Result<Items<Text>, Memory>
 pub(crate) fn rollup_of(domains: &[DomainShape], domain: &str) -> bool
     ensures { result ≡ rollup_of (find (λ d. bytes_eq d.domain domain.now) domains.now) }
 {
-    match shape_of(domains, domain) {
+    match domain_shape(domains, domain) {
         Some(shape) => shape.rollup,
         None => true,
     }
 }
 
-fn shape_of<'p>(domains: &'p [DomainShape], domain: &str) -> Option<&'p DomainShape>
+fn domain_shape<'p>(domains: &'p [DomainShape], domain: &str) -> Option<&'p DomainShape>
     ensures { option_map (λ d. d.now) result ≡ find (λ d. bytes_eq d.domain domain.now) domains.now }
 {
     domains.iter().find(|d| d.domain.is_same(domain))
