@@ -5,12 +5,15 @@
 mod automation;
 mod candidates;
 mod connections;
+mod examine;
 mod limits;
+mod matching;
 mod messages;
 mod openable;
 mod orders;
-mod rates;
 mod paths;
+mod rates;
 mod ready;
 mod refusals;
 mod rotation;
+mod scene;
