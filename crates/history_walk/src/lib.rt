@@ -16,4 +16,3 @@ mod rates;
 mod ready;
 mod refusals;
 mod rotation;
-mod scene;
