@@ -102,7 +102,8 @@ fn path_of(
     before: &[Entry],
     conn: u64,
 ) -> Result<Option<Path>, Memory>
-    ensures { IfOk result (λ path. path ≡ option_and_then (path_named policy.now before.now) (path_of_connection before.now conn)) }
+    ensures { IfOk result (λ path. path
+        ≡ option_and_then (path_named policy.now before.now) (path_of_connection before.now conn)) }
 {
     match connection_with(before, conn) {
         Some(opened) => path_named(alloc, policy, before, opened.path),
