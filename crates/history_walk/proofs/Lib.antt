@@ -11,3 +11,4 @@ pub mod ReadyCount
 pub mod Picks
 pub mod FiringWalks
 pub mod MatchWalks
+pub mod LeastPaths

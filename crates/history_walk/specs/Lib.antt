@@ -3,4 +3,5 @@ pub mod GivenNow
 pub mod Pending
 pub mod Known
 pub mod Examined
+pub mod Scene
 pub mod inside

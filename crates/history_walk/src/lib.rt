@@ -16,3 +16,4 @@ mod rates;
 mod ready;
 mod refusals;
 mod rotation;
+mod scene;

@@ -116,6 +116,20 @@ impl Known {
         }
     }
 
+    /// The promotions, in the order in which they came.
+    pub fn promotions(&self) -> &[Promoted]
+        ensures { result.now ≡ self.now.promotions }
+    {
+        self.promotions.as_slice()
+    }
+
+    /// The paths, in the order in which they came.
+    pub fn paths(&self) -> &[KnownPath]
+        ensures { result.now ≡ self.now.paths }
+    {
+        self.paths.as_slice()
+    }
+
     /// What is known of a history.
     pub fn of(alloc: Global, policy: &Policy, entries: &[Entry]) -> Result<Known, Memory>
         ensures { IfOk result (λ known. IsKnown policy.now entries.now known) }
