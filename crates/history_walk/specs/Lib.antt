@@ -4,4 +4,5 @@ pub mod Pending
 pub mod Known
 pub mod Examined
 pub mod Scene
+pub mod Verdicts
 pub mod inside

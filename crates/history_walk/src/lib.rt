@@ -17,3 +17,4 @@ mod ready;
 mod refusals;
 mod rotation;
 mod scene;
+mod verdict;

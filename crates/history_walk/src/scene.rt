@@ -3,7 +3,7 @@
 //! `Known` and the firings are found first, with memory and a search; nothing of a scene takes either.
 ghost use Rattle.std.specs.Prelude.{◌≡◌, nat_lt, length, List, ◌∷◌, map, option_map, IfSome, All};
 ghost use Rattle.history_core.specs.declared.path.Path.{Path as way};
-ghost use Rattle.history_core.specs.History.{text_of};
+ghost use Rattle.history_core.specs.History.{text_of, path_named};
 ghost use Rattle.history_core.specs.Connection.{open_connections};
 ghost use Rattle.history_core.specs.Firing.{is_halted, is_free};
 ghost use Rattle.history_core.specs.Limits.{limits};
@@ -17,7 +17,7 @@ use crate::automation;
 use crate::connections::open_count;
 use crate::limits::limits_in_force;
 use crate::openable::opened_rank;
-use crate::paths::{Known, KnownPath};
+use crate::paths::{Known, KnownPath, known_path_named};
 use crate::rates;
 use crate::ready;
 use history_core::{Entry, RuleMatch};
@@ -64,6 +64,28 @@ impl<'h> Scene<'h> {
             firings,
             moment,
         }
+    }
+
+    /// The entries of the history, the oldest first.
+    pub fn entries(&self) -> &'h [Entry]
+        ensures { result.now ≡ self.now.history }
+    {
+        self.entries
+    }
+
+    /// The moment, in milliseconds since 1970.
+    pub fn moment(&self) -> u64
+        ensures { result ≡ self.now.moment }
+    {
+        self.moment
+    }
+
+    /// The path of a text, where messages were promoted to it.
+    pub fn path_named(&self, text: &str) -> Option<&'h KnownPath>
+        ensures named { option_map (λ k. k.now.path) result ≡ path_named self.now.policy self.now.history text.now }
+        ensures known { IfSome result (λ k. k.now ≡ known_path self.now.policy k.now.path) }
+    {
+        known_path_named(self.known, text)
     }
 
     /// The options of a path in force.
@@ -175,6 +197,16 @@ impl<'h> Scene<'h> {
     {
         let limit = self.limits(path).connection_limit;
         open_count(self.entries, path.text.as_str()) < limit as usize
+    }
+
+    /// Whether the path has more open connections than its limit.
+    pub fn is_above_limit(&self, path: &KnownPath) -> bool
+        requires { path.now ≡ known_path self.now.policy path.now.path }
+        ensures { result ≡ nat_lt (limits self.now.policy self.now.history self.now.moment path.now.path).connection_limit
+            (length (open_connections self.now.history (text_of path.now.path))) }
+    {
+        let limit = self.limits(path).connection_limit;
+        (limit as usize) < open_count(self.entries, path.text.as_str())
     }
 
     /// Whether a path may open a connection.
