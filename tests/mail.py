@@ -1,7 +1,7 @@
 """Mail files: what a message is sent as, which lines are refused and by which word, and where the limits are.
 
-A file of one message is sent, and the log tells what was read. A file of several is read whole and is not sent yet, which
-shows that none of its lines is refused.
+A file of one message that is due at moment 0 is sent, and the log tells what was read. A file of several, or of one that is due
+later, is read whole and is not sent yet, which shows that none of its lines is refused.
 """
 
 import json
@@ -44,7 +44,7 @@ def refused(mail, word, number=1):
     case("send --mail mail", [f"error: mail line {number}: {word}"], 4, mail=mail)
 
 
-def several(mail):
+def unsent(mail):
     case("send --mail mail", ["error: not yet mail"], 12, mail=mail)
 
 
@@ -60,7 +60,6 @@ sent(line(tenant="t", campaign="c d"), queue="c d:t@a.example")
 sent(line(tenant="T"), queue="T@a.example")
 sent(line(campaign="C"), queue="C:@a.example")
 sent(line(sender=""), sender="")
-sent(line(created=LAST_MOMENT), created=LAST_MOMENT)
 sent(line().replace("created", "creat\\u0065d").replace("hi", "\\u0068\\u0069"))
 sent(line(body=""), body="")
 
@@ -90,8 +89,12 @@ IDS = (
     "urn:uuid:33333333-2222-3333-4444-555555555555",
     "44444444222233334444555555555555",
 )
-several("\n".join(line(id=spelled) for spelled in IDS))
-several("\r\n\n".join(line(id=spelled) for spelled in IDS[:2]) + "\r\n")
+unsent("\n".join(line(id=spelled) for spelled in IDS))
+unsent("\r\n\n".join(line(id=spelled) for spelled in IDS[:2]) + "\r\n")
+
+# One message is not due before it was made; each moment up to the last is read.
+unsent(line(created=1))
+unsent(line(created=LAST_MOMENT))
 
 # The words of a refusal, in the order in which they are tried: each line breaks all later rules too.
 NO_KEYS = {"id": 5, "created": "x", "sender": None, "recipient": [], "campaign": 0, "tenant": {}, "body": 1}

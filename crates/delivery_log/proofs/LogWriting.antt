@@ -2,8 +2,8 @@
 use Rattle.std.proofs.Common.{◌≡◌, ℕ, ◌+◌, ◌<◌, ◌≤◌, List, [], ◌∷◌, ◌++◌, Option, Result, Ok, Err, OnErr, length, take, drop, get_or, sym, ap, subst, ◌∙◌, append_assoc, append-nil}
 use Rattle.std.proofs.lemmas.List.{take_all, take_more, take-append-drop}
 use Rattle.std.proofs.lemmas.List.Concat.{flat_map-append}
-use Rattle.kumo_outside.specs.Told.{extended, TakesFront, TakesProperFront}
-use Rattle.kumo_outside.proofs.ToldLemmas.{extended-nil, extended-next, TakesFront-more, TakesFront-after, TakesFront-proper}
+use Rattle.kumo_outside.specs.Content.{told_with, TakesPrefix, TakesProperPrefix}
+use Rattle.kumo_outside.proofs.ContentLemmas.{told_with-nil, told_with-next, TakesPrefix-more, TakesPrefix-after, TakesPrefix-proper}
 use Rattle.history_core.specs.declared.entry.Entry.{Entry}
 use Rattle.delivery_log.specs.LogText.{line_of, log_text}
 use Rattle.delivery_log.specs.inside.LogGathered.{Gathers}
@@ -15,21 +15,21 @@ OnErr-from (Err e) p = p
 
 -- nothing was put, and all is gathered
 pub gathers_all : (told : Option (List ℕ)) (gathered bytes : List ℕ) → gathered ≡ bytes → Gathers told told gathered bytes
-gathers_all told gathered bytes e = ([], record { whole = e; added = sym (extended-nil told) })
+gathers_all told gathered bytes e = ([], record { whole = e; added = sym (told_with-nil told) })
 
 -- what was gathered was put, and the next bytes are gathered
-pub gathers_next : (old new : Option (List ℕ)) (front gathered bytes : List ℕ) → new ≡ extended old front → gathered ≡ bytes → Gathers old new gathered (front ++ bytes)
+pub gathers_next : (old new : Option (List ℕ)) (front gathered bytes : List ℕ) → new ≡ told_with old front → gathered ≡ bytes → Gathers old new gathered (front ++ bytes)
 gathers_next old new front gathered bytes e f = (front, record { whole = ap (λ xs. front ++ xs) f; added = e })
 
 -- all was put, and nothing is gathered
 pub gathers_none :
     (old mid new : Option (List ℕ)) (front gathered bytes : List ℕ) →
-    mid ≡ extended old front →
-    new ≡ extended mid bytes →
+    mid ≡ told_with old front →
+    new ≡ told_with mid bytes →
     gathered ≡ [] →
     Gathers old new gathered (front ++ bytes)
 gathers_none old mid new front gathered bytes e f none =
-    (front ++ bytes, record { whole = ap (λ xs. (front ++ bytes) ++ xs) none ∙ append-nil (front ++ bytes); added = extended-next old mid new front bytes e f })
+    (front ++ bytes, record { whole = ap (λ xs. (front ++ bytes) ++ xs) none ∙ append-nil (front ++ bytes); added = told_with-next old mid new front bytes e f })
 
 -- bytes behind those that are gathered
 pub gathers_more :
@@ -41,61 +41,61 @@ gathers_more old mid new was gathered bytes more (front, h) (next, k) = (
   front ++ next,
   record {
     whole = append_assoc front next gathered ∙ ap (λ xs. front ++ xs) k.whole ∙ sym (append_assoc front was more) ∙ ap (λ xs. xs ++ more) h.whole;
-    added = extended-next old mid new front next h.added k.added;
+    added = told_with-next old mid new front next h.added k.added;
   },
 )
 
 -- what was gathered is put, and so all is
-pub gathers_put : (old mid new : Option (List ℕ)) (gathered bytes : List ℕ) → Gathers old mid gathered bytes → new ≡ extended mid gathered → new ≡ extended old bytes
-gathers_put old mid new gathered bytes (front, h) e = extended-next old mid new front gathered h.added e ∙ ap (extended old) h.whole
+pub gathers_put : (old mid new : Option (List ℕ)) (gathered bytes : List ℕ) → Gathers old mid gathered bytes → new ≡ told_with mid gathered → new ≡ told_with old bytes
+gathers_put old mid new gathered bytes (front, h) e = told_with-next old mid new front gathered h.added e ∙ ap (told_with old) h.whole
 
 -- what was put is a front of the bytes
-pub front_put : (old new : Option (List ℕ)) (gathered bytes : List ℕ) → Gathers old new gathered bytes → TakesFront old new bytes
+pub front_put : (old new : Option (List ℕ)) (gathered bytes : List ℕ) → Gathers old new gathered bytes → TakesPrefix old new bytes
 front_put old new gathered bytes (front, h) = (front, gathered, h)
 
 -- a front of what is gathered and of more bytes is put
 pub front_next :
     (old mid new : Option (List ℕ)) (gathered bytes more : List ℕ) →
     Gathers old mid gathered bytes →
-    TakesFront mid new (gathered ++ more) →
-    TakesFront old new (bytes ++ more)
+    TakesPrefix mid new (gathered ++ more) →
+    TakesPrefix old new (bytes ++ more)
 front_next old mid new gathered bytes more (front, h) (next, rest, k) = (
   front ++ next,
   rest,
   record {
     whole = append_assoc front next rest ∙ ap (λ xs. front ++ xs) k.whole ∙ sym (append_assoc front gathered more) ∙ ap (λ xs. xs ++ more) h.whole;
-    added = extended-next old mid new front next h.added k.added;
+    added = told_with-next old mid new front next h.added k.added;
   },
 )
 
 -- a front of what is gathered is put
-pub front_last : (old mid new : Option (List ℕ)) (gathered bytes : List ℕ) → Gathers old mid gathered bytes → TakesProperFront mid new gathered → TakesFront old new bytes
+pub front_last : (old mid new : Option (List ℕ)) (gathered bytes : List ℕ) → Gathers old mid gathered bytes → TakesProperPrefix mid new gathered → TakesPrefix old new bytes
 front_last old mid new gathered bytes (front, h) part =
-    subst (TakesFront old new) h.whole (TakesFront-after old mid new front gathered h.added (TakesFront-proper mid new gathered part))
+    subst (TakesPrefix old new) h.whole (TakesPrefix-after old mid new front gathered h.added (TakesPrefix-proper mid new gathered part))
 
 -- of what was gathered and a line a front is put
-pub front_first : (old new : Option (List ℕ)) (put gathered line : List ℕ) → put ≡ gathered → TakesProperFront old new put → TakesFront old new (gathered ++ line)
+pub front_first : (old new : Option (List ℕ)) (put gathered line : List ℕ) → put ≡ gathered → TakesProperPrefix old new put → TakesPrefix old new (gathered ++ line)
 front_first old new put gathered line e part =
-    TakesFront-more old new gathered line (TakesFront-proper old new gathered (subst (TakesProperFront old new) e part))
+    TakesPrefix-more old new gathered line (TakesPrefix-proper old new gathered (subst (TakesProperPrefix old new) e part))
 
 -- of a line behind what was put a front is put
 pub front_second :
     (old mid new : Option (List ℕ)) (put gathered line : List ℕ) →
     put ≡ gathered →
-    mid ≡ extended old put →
-    TakesProperFront mid new line →
-    TakesFront old new (gathered ++ line)
+    mid ≡ told_with old put →
+    TakesProperPrefix mid new line →
+    TakesPrefix old new (gathered ++ line)
 front_second old mid new put gathered line e f part =
-    TakesFront-after old mid new gathered line (f ∙ ap (extended old) e) (TakesFront-proper mid new line part)
+    TakesPrefix-after old mid new gathered line (f ∙ ap (told_with old) e) (TakesPrefix-proper mid new line part)
 
 -- the log text up to an entry, and the rest
 log_text-split : (h : List Entry) (i : ℕ) → log_text (take i h) ++ log_text (drop i h) ≡ log_text h
 log_text-split h i = sym (flat_map-append line_of (take i h) (drop i h)) ∙ ap log_text (take-append-drop i h)
 
 -- a front of the text of the first entries is a front of the whole
-pub front_of_log : (old new : Option (List ℕ)) (h : List Entry) (i : ℕ) → TakesFront old new (log_text (take i h)) → TakesFront old new (log_text h)
+pub front_of_log : (old new : Option (List ℕ)) (h : List Entry) (i : ℕ) → TakesPrefix old new (log_text (take i h)) → TakesPrefix old new (log_text h)
 front_of_log old new h i front =
-    subst (TakesFront old new) (log_text-split h i) (TakesFront-more old new (log_text (take i h)) (log_text (drop i h)) front)
+    subst (TakesPrefix old new) (log_text-split h i) (TakesPrefix-more old new (log_text (take i h)) (log_text (drop i h)) front)
 
 -- one entry more
 log_text_more : (h : List Entry) (i : ℕ) (e : Entry) (line : List ℕ) → i < length h → e ≡ get_or h i e → line ≡ line_of e → log_text (take i h) ++ line ≡ log_text (take (i + 1) h)

@@ -1,7 +1,7 @@
 //! The log text of a whole history, put into a sink.
 ghost use Rattle.std.specs.Prelude.{◌≡◌, ◌≤◌, ◌++◌, OnOk, OnErr, Err};
 ghost use Rattle.kumo_base.specs.Causes.{Rose};
-ghost use Rattle.kumo_outside.specs.Told.{extended, TakesFront};
+ghost use Rattle.kumo_outside.specs.Content.{told_with, TakesPrefix};
 ghost use Rattle.delivery_log.specs.LogText.{log_text};
 ghost use Rattle.delivery_log.specs.declared.log.LogWriteFault.TheVariants as fault;
 ghost use Rattle.delivery_log.specs.inside.LogGathered.{Gathers};
@@ -44,8 +44,8 @@ pub fn write_log<O: Sink>(
     history: &History,
     out: &mut O,
 ) -> Result<(), LogWriteFault>
-    ensures ok { OnOk result ((O.seen out.new).told ≡ extended (O.seen out.old).told (log_text history.now)) }
-    ensures err { OnErr result (TakesFront (O.seen out.old).told (O.seen out.new).told (log_text history.now)) }
+    ensures ok { OnOk result ((O.seen out.new).told ≡ told_with (O.seen out.old).told (log_text history.now)) }
+    ensures err { OnErr result (TakesPrefix (O.seen out.old).told (O.seen out.new).told (log_text history.now)) }
     ensures later { (O.seen out.old).faults ≤ (O.seen out.new).faults }
     ensures cause { result ≡ Err fault.WriteFault → Rose (O.seen out.old).faults (O.seen out.new).faults }
 {
@@ -65,7 +65,7 @@ fn write_line<O: Sink>(
     out: &mut O,
 ) -> Result<(), LogWriteFault>
     ensures ok { OnOk result (Gathers (O.seen out.old).told (O.seen out.new).told buffer.new (buffer.old ++ line.now)) }
-    ensures err { OnErr result (TakesFront (O.seen out.old).told (O.seen out.new).told (buffer.old ++ line.now)) }
+    ensures err { OnErr result (TakesPrefix (O.seen out.old).told (O.seen out.new).told (buffer.old ++ line.now)) }
     ensures later { (O.seen out.old).faults ≤ (O.seen out.new).faults }
     ensures cause { result ≡ Err fault.WriteFault → Rose (O.seen out.old).faults (O.seen out.new).faults }
 {

@@ -27,7 +27,7 @@ impl<'a> Link for Script<'a> {
       faults = s.faults;
     } };
 
-    #[tactic(auto, unfolding(kumo_outside::specs::Told::extended))]
+    #[tactic(auto, unfolding(kumo_outside::specs::Content::told_with))]
     fn send(&mut self, piece: &[u8]) -> Result<usize, Failed> {
         self.ended = false;
         let count = piece.len().min(self.piece.max(1));
@@ -39,7 +39,7 @@ impl<'a> Link for Script<'a> {
         Ok(count)
     }
 
-    #[tactic(auto, unfolding(kumo_outside::specs::Told::extended))]
+    #[tactic(auto, unfolding(kumo_outside::specs::Content::told_with))]
     fn recv(&mut self, buffer: &mut [u8]) -> Result<usize, Failed> {
         if self.left.is_empty() {
             self.ended = true;

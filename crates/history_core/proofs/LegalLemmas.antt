@@ -34,3 +34,24 @@ step_by_step p P before (e ∷ later) step first legal =
 pub IsLegal-induction : (p : Policy) (P : List Entry → Type 0) → P []
     → ((h : List Entry) (e : Entry) → P h → MayFollow p h e → P (h ++ e ∷ [])) → (h : List Entry) → IsLegal p h → P h
 IsLegal-induction p P first step h legal = step_by_step p P [] h step first legal
+
+LegalAfter-at : (p : Policy) (before h : List Entry) (e : Entry) (later : List Entry) → LegalAfter p before (h ++ e ∷ later) → MayFollow p (before ++ h) e
+LegalAfter-at p before [] e later legal = subst (λ xs. MayFollow p xs e) (sym (append-nil before)) legal.0
+LegalAfter-at p before (x ∷ h) e later legal =
+    subst (λ xs. MayFollow p xs e) (append_assoc before (x ∷ []) h) (LegalAfter-at p (before ++ x ∷ []) h e later legal.1)
+
+-- each entry may follow those before it
+pub IsLegal-at : (p : Policy) (h : List Entry) (e : Entry) (later : List Entry) → IsLegal p (h ++ e ∷ later) → MayFollow p h e
+IsLegal-at p h e later legal = LegalAfter-at p [] h e later legal
+
+record LegalWith (p : Policy) (P : List Entry → Type 0) (h : List Entry) : Type 0 where
+  legal : IsLegal p h
+  holds : P h
+
+-- the same, where what was before is known to be legal
+pub IsLegal-along : (p : Policy) (P : List Entry → Type 0) → P []
+    → ((h : List Entry) (e : Entry) → IsLegal p h → P h → MayFollow p h e → P (h ++ e ∷ [])) → (h : List Entry) → IsLegal p h → P h
+IsLegal-along p P first step h legal =
+    (IsLegal-induction p (LegalWith p P) (record { legal = tt; holds = first })
+    (λ h e k follows. record { legal = IsLegal-push p h e k.legal follows; holds = step h e k.legal k.holds follows })
+    h legal).holds

@@ -6,7 +6,7 @@ use Rattle.smtp_reply.specs.declared.reply.Outcome.{Outcome}
 use Rattle.smtp_reply.specs.declared.reply.Outcome.TheVariants.{Transient, Lost}
 use Rattle.policy_core.specs.declared.orders.Order.{Order}
 use Rattle.history_core.specs.declared.entry.Event.{Event}
-use Rattle.history_core.specs.declared.entry.Event.TheVariants.{Recovered, Accepted, Known, Promoted, Opened, Begun, Ended, Closed, Delayed, Ordered, Resumed, Resolved, Rested, Stopped}
+use Rattle.history_core.specs.declared.entry.Event.TheVariants.{Recovered, Accepted, Known, Promoted, Opened, Begun, Ended, Closed, Delayed, Ordered, Resumed, Resolved, Stopped}
 use Rattle.history_core.specs.declared.entry.Next.{Next}
 use Rattle.history_core.specs.declared.entry.Next.TheVariants.{Settled, Due, Expired}
 use Rattle.history_core.specs.declared.entry.Cause.{Cause}

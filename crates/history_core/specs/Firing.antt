@@ -13,7 +13,6 @@ use Rattle.policy_core.specs.PathTables.{base_of}
 use Rattle.policy_core.specs.LiveOrders.{is_during}
 use Rattle.policy_core.specs.Automation.{is_fired, covers, is_suspend, numbered_rules}
 use Rattle.policy_core.specs.declared.rules.Rule.{Rule}
-use Rattle.policy_core.specs.declared.site.PathBase.{PathBase}
 use Rattle.history_core.specs.declared.entry.Entry.{Entry}
 use Rattle.history_core.specs.declared.path.Path.{Path}
 use Rattle.history_core.specs.declared.rule_match.RuleMatch.{RuleMatch}

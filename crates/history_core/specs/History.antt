@@ -1,5 +1,5 @@
 -- A history is a list of entries, the oldest first: its messages, and the paths that they were promoted to.
-use Rattle.std.specs.Prelude.{ℕ, ◌==◌, List, [], ◌∷◌, ◌++◌, length, Bool, false, ◌&&◌, Option, is_some, option_map, option_and_then, option_to_list, position, find, filter_map, map, fold, bytes_eq, if◌then◌else◌}
+use Rattle.std.specs.Prelude.{ℕ, ◌==◌, List, [], ◌∷◌, ◌++◌, length, Bool, ◌&&◌, Option, option_map, option_and_then, option_to_list, position, find, filter_map, fold, bytes_eq, if◌then◌else◌}
 use Rattle.std.specs.List.{list_any}
 use Rattle.queue_name.specs.declared.message.Message.{Message}
 use Rattle.policy_core.specs.Policy.{Policy}

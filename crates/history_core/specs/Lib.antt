@@ -13,3 +13,5 @@ pub mod Wake
 pub mod Sweep
 pub mod Proper
 pub mod Legal
+pub mod Allowed
+pub mod KeyRates

@@ -10,7 +10,7 @@ use Rattle.policy_core.specs.declared.options.InForce.{InForce}
 use Rattle.history_core.specs.declared.entry.Entry.{Entry}
 use Rattle.history_core.specs.declared.path.Path.{Path}
 use Rattle.history_core.specs.declared.rule_match.RuleMatch.{RuleMatch}
-use Rattle.history_core.specs.Events.{Beginning, beginning_in, is_this}
+use Rattle.history_core.specs.Events.{Beginning, beginning_in}
 use Rattle.history_core.specs.History.{along, is_same_path}
 use Rattle.history_core.specs.Connection.{connections, path_of_connection}
 use Rattle.history_core.specs.Firing.{firings_in_force}
@@ -25,7 +25,7 @@ limits policy h t p = limits_of (base_of policy p.site p.source) (is_rule_among 
 
 -- the moments at which connections of the path of a text were opened under a key
 abbrev pub opened_moments : List Entry → List ℕ → ℕ → List ℕ
-opened_moments h path key = map (λ c. c.at) (filter (λ c. bytes_eq c.path path && c.key == key) (connections h))
+opened_moments h path key = map (λ c. clamped c.at) (filter (λ c. bytes_eq c.path path && c.key == key) (connections h))
 
 abbrev pub is_text : Option (List ℕ) → List ℕ → Bool
 is_text None text = false
@@ -33,7 +33,7 @@ is_text (Some found) text = bytes_eq found text
 
 abbrev pub begun_if : List Entry → List ℕ → ℕ → ℕ → Option Beginning → List ℕ
 begun_if before path key at None = []
-begun_if before path key at (Some b) = if b.key == key && is_text (path_of_connection before b.conn) path then at ∷ [] else []
+begun_if before path key at (Some b) = if b.key == key && is_text (path_of_connection before b.conn) path then clamped at ∷ [] else []
 
 abbrev pub begun_at : List ℕ → ℕ → List Entry → Entry → List ℕ
 begun_at path key before e = begun_if before path key e.at (beginning_in e.what)

@@ -1,5 +1,5 @@
 -- Which path may open a connection next, and what a connection may do next.
-use Rattle.std.specs.Prelude.{ℕ, ◌+◌, ◌==◌, nat_lt, nat_le, List, [], ◌∷◌, length, Bool, true, false, not, ◌&&◌, Option, Some, None, is_some, option_map, option_and_then, filter, find, fold, bytes_eq, if◌then◌else◌}
+use Rattle.std.specs.Prelude.{ℕ, ◌+◌, ◌==◌, nat_lt, nat_le, List, [], ◌∷◌, length, Bool, true, false, not, ◌&&◌, Option, Some, None, is_some, option_map, option_and_then, filter, fold, bytes_eq, if◌then◌else◌}
 use Rattle.std.specs.List.{list_any}
 use Rattle.kumo_base.specs.Moment.{clamped}
 use Rattle.policy_core.specs.Policy.{Policy}

@@ -1,5 +1,5 @@
 -- When an entry is proper: its parts keep the rules of their own kind, whatever history it stands in.
-use Rattle.std.specs.Prelude.{◌≤◌, ℕ, ⊤}
+use Rattle.std.specs.Prelude.{◌≤◌, ⊤}
 use Rattle.kumo_base.specs.Limits.{latest_moment}
 use Rattle.queue_name.specs.Message.{IsProperMessage}
 use Rattle.smtp_reply.specs.ReplyText.{IsProperOutcome}

@@ -1,5 +1,6 @@
 //! A path: a source and a site. A message has one for each source that it may leave by.
 ghost use Rattle.std.specs.Prelude.{◌≡◌, IfOk};
+ghost use Rattle.history_core.specs.History.{is_same_path};
 
 use kumo_base::{Memory, Text};
 use policy_core::Site;
@@ -32,5 +33,12 @@ impl Path {
             source: self.source.copy(alloc)?,
             site: self.site.copy(alloc)?,
         })
+    }
+
+    /// Whether two paths have the same source and the same site.
+    pub fn is_same(&self, other: &Path) -> bool
+        ensures { result ≡ is_same_path self.now other.now }
+    {
+        self.source.is_same(other.source.as_str()) && self.site.is_same(&other.site)
     }
 }

@@ -1,5 +1,9 @@
 pub mod ListWalks
 pub mod OpenWalks
+pub mod RuleWalks
+pub mod SiteWalks
+pub mod RateWalks
+pub mod OneMore
 pub mod Along
 pub mod SamePaths
 pub mod KnownPaths

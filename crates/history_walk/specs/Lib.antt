@@ -2,3 +2,4 @@ pub mod Opened
 pub mod GivenNow
 pub mod Pending
 pub mod Known
+pub mod inside

@@ -1,10 +1,11 @@
 //! The messages of a history: their fates, their failures, and when they are due.
-ghost use Rattle.std.specs.Prelude.{◌≡◌, ◌==◌, ◌-◌, ◌*◌, ◌^◌, ◌<◌, ◌≤◌, min, option_map, unwrap_or, length, count_by};
+ghost use Rattle.std.specs.Prelude.{◌≡◌, ◌≢◌, ◌↔◌, [], find, is_some, IsTrue, ◌==◌, ◌-◌, ◌*◌, ◌^◌, ◌<◌, ◌≤◌, min, option_map, unwrap_or, length, count_by};
+ghost use Rattle.std.specs.List.{list_any, list_all};
 ghost use Rattle.kumo_base.specs.Moment.{clamped};
 ghost use Rattle.policy_core.specs.Delays.{at_most};
 ghost use Rattle.history_core.specs.Events.{message_in, recovered_in, known_in, settled_in, failed_in, due_by, is_final, is_this};
-ghost use Rattle.history_core.specs.History.{messages, message_with};
-ghost use Rattle.history_core.specs.Fate.{fate_of};
+ghost use Rattle.history_core.specs.History.{messages, message_with, has_id};
+ghost use Rattle.history_core.specs.Fate.{fate_of, pending};
 ghost use Rattle.history_core.specs.Retry.{failures_after, failures, due_after, due, one_more_failure, due_or_expired};
 ghost use Rattle.history_walk.specs.Pending.{pending_in, is_failure};
 
@@ -197,4 +198,95 @@ pub fn due_or_expired(max_age: u64, created: u64, moment: u64) -> Next
     } else {
         Next::Due(moment)
     }
+}
+
+/// Whether a message of the id came.
+pub fn has_message(entries: &[Entry], id: u128) -> bool
+    ensures { result ≡ list_any (has_id id) (messages entries.now) }
+{
+    for entry in entries {
+        if let Some(message) = message_by(entry) {
+            if message.id == id {
+                return true;
+            }
+        }
+    }
+    false
+}
+
+/// Whether something is pending.
+pub fn has_pending(entries: &[Entry]) -> bool
+    ensures { IsTrue result ↔ (pending entries.now ≢ []) }
+{
+    for entry in entries {
+        if pending_by(entries, entry).is_some() {
+            return true;
+        }
+    }
+    false
+}
+
+/// The first pending message of an id.
+pub fn pending_with(entries: &[Entry], id: u128) -> Option<&Message>
+    ensures { option_map (λ m. m.now) result ≡ find (has_id id) (pending entries.now) }
+{
+    for entry in entries {
+        if let Some(message) = pending_by(entries, entry) {
+            if message.id == id {
+                return Some(message);
+            }
+        }
+    }
+    None
+}
+
+/// Whether the entry recovers the message.
+fn recovers(entry: &Entry, id: u128) -> bool
+    ensures { result ≡ is_this (recovered_in entry.now.what) id }
+{
+    match &entry.what {
+        Event::Recovered { message, .. } => message.id == id,
+        _ => false,
+    }
+}
+
+/// Whether the message was recovered.
+pub fn is_recovered(entries: &[Entry], id: u128) -> bool
+    ensures { result ≡ list_any (λ e. is_this (recovered_in e.what) id) entries.now }
+{
+    entries.iter().any(|entry| recovers(entry, id))
+}
+
+/// Whether the entry says that the message was handed in again.
+fn knows(entry: &Entry, id: u128) -> bool
+    ensures { result ≡ is_this (known_in entry.now.what) id }
+{
+    match &entry.what {
+        Event::Known { id: of } => *of == id,
+        _ => false,
+    }
+}
+
+/// Whether the message was handed in again.
+pub fn is_known(entries: &[Entry], id: u128) -> bool
+    ensures { result ≡ list_any (λ e. is_this (known_in e.what) id) entries.now }
+{
+    entries.iter().any(|entry| knows(entry, id))
+}
+
+/// Whether the entry recovers a message.
+fn is_recovery(entry: &Entry) -> bool
+    ensures { result ≡ is_some (recovered_in entry.now.what) }
+{
+    match &entry.what {
+        Event::Recovered { .. } => true,
+        _ => false,
+    }
+}
+
+/// Whether nothing but recoveries came.
+pub fn has_only_recoveries(entries: &[Entry]) -> bool
+    ensures { result ≡ list_all (λ e. is_some (recovered_in e.what)) entries.now }
+{
+    entries.iter().all(is_recovery)
 }

@@ -2,7 +2,7 @@
 //! stands around a mark in them, the two answers without a cause in the data, room for a reply, numbered lines, moments and
 //! durations.
 //!
-//! It stands on nothing. What is here is said once for the whole core.
+//! It depends on no other crate. What is here is said once for the whole core.
 #![tactic(auto)]
 
 mod borrowed;

@@ -1,5 +1,5 @@
 pub mod Limits
-pub mod Told
+pub mod Content
 pub mod Sessions
 pub mod Devices
 pub mod Search

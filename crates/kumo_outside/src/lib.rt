@@ -2,7 +2,7 @@
 //! counted faults, their implementations in memory, over the system and by the crate `regex`, and the
 //! session that a linker tells.
 //!
-//! The crates that talk to the world stand on this one; docs/ARCHITECTURE.md lists them. A trait's
+//! The crates that talk to the world depend on this one; docs/ARCHITECTURE.md lists them. A trait's
 //! contract says what a call told and what it counted, so that a caller can be held to "this answer
 //! comes only where the outside failed".
 #![tactic(auto)]

@@ -1,7 +1,7 @@
 //! One connection to a receiver.
 ghost use Rattle.std.specs.Prelude.{◌≡◌, ◌==◌, ◌<◌, ◌≤◌, false, length, take, IfOk, MatchResult};
 ghost use Rattle.kumo_base.specs.Causes.{HasCause};
-ghost use Rattle.kumo_outside.specs.Told.{extended};
+ghost use Rattle.kumo_outside.specs.Content.{told_with};
 ghost use Rattle.kumo_outside.specs.Sessions.{LinkSeen};
 
 use kumo_base::Failed;
@@ -17,7 +17,7 @@ pub trait Link {
     fn send(&mut self, piece: &[u8]) -> Result<usize, Failed>
         requires { 0 < length piece.now }
         ensures taken { IfOk result (λ n. (0 < n) × (n ≤ length piece.now)) }
-        ensures sent { MatchResult result (λ n. (seen self.new).sent ≡ extended (seen self.old).sent (take n piece.now))
+        ensures sent { MatchResult result (λ n. (seen self.new).sent ≡ told_with (seen self.old).sent (take n piece.now))
             (λ _. (seen self.new).sent ≡ (seen self.old).sent) }
         ensures got { (seen self.new).got ≡ (seen self.old).got }
         ensures ended { (seen self.new).ended ≡ false }
@@ -30,7 +30,7 @@ pub trait Link {
         requires { 0 < length buffer.old }
         ensures bound { IfOk result (λ n. n ≤ length buffer.new) }
         ensures sent { (seen self.new).sent ≡ (seen self.old).sent }
-        ensures got { MatchResult result (λ n. (seen self.new).got ≡ extended (seen self.old).got (take n buffer.new))
+        ensures got { MatchResult result (λ n. (seen self.new).got ≡ told_with (seen self.old).got (take n buffer.new))
             (λ _. (seen self.new).got ≡ (seen self.old).got) }
         ensures ended { MatchResult result (λ n. (seen self.new).ended ≡ (n == 0)) (λ _. (seen self.new).ended ≡ false) }
         ensures opening { (seen self.new).opening ≡ (seen self.old).opening }

@@ -1,7 +1,7 @@
 //! A sink in memory.
 ghost use Rattle.std.specs.Prelude.{◌≡◌, ◌<◌, ◌≤◌, ℕ, List, [], Option, Some, length, take, IfOk, OnOk, OnErr, IsErr, IsTrue, MatchResult};
 ghost use Rattle.kumo_base.specs.Causes.{HasCause};
-ghost use Rattle.kumo_outside.specs.Told.{extended};
+ghost use Rattle.kumo_outside.specs.Content.{told_with};
 ghost use Rattle.kumo_outside.specs.Devices.{ByteSink, is_failing, one_more};
 
 use crate::sink::Sink;
@@ -49,11 +49,11 @@ impl MemSink {
 impl Sink for MemSink {
     ghost seen = { λ s. record { told = Some s.bytes; faults = s.faults } };
 
-    #[tactic(auto, unfolding(crate::specs::Told::extended))]
+    #[tactic(auto, unfolding(crate::specs::Content::told_with))]
     fn put(&mut self, piece: &[u8]) -> Result<usize, Failed>
         requires { 0 < length piece.now }
         ensures taken { IfOk result (λ n. (0 < n) × (n ≤ length piece.now)) }
-        ensures bytes { MatchResult result (λ n. Some self.new.bytes ≡ extended (Some self.old.bytes) (take n piece.now))
+        ensures bytes { MatchResult result (λ n. Some self.new.bytes ≡ told_with (Some self.old.bytes) (take n piece.now))
             (λ _. Some self.new.bytes ≡ Some self.old.bytes) }
         ensures cause { HasCause self.old.faults self.new.faults result }
         ensures uncounted { OnOk result (self.new.faults ≡ self.old.faults) }

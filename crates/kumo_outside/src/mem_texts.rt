@@ -1,7 +1,7 @@
 //! Texts in memory.
 ghost use Rattle.std.specs.Prelude.{◌≡◌, ◌<◌, ◌≤◌, ◌&&◌, not, ℕ, List, Option, length, option_map, IfOk, IfSome, OnOk, OnErr, is_ok, is_some};
 ghost use Rattle.kumo_base.specs.Causes.{HasCause};
-ghost use Rattle.kumo_outside.specs.Told.{Places};
+ghost use Rattle.kumo_outside.specs.Content.{Places};
 ghost use Rattle.kumo_outside.specs.Devices.{TextShelf, text_at, is_failing, one_more};
 
 use crate::texts::Texts;

@@ -23,7 +23,7 @@ impl<'a, R: Print> StdoutSink<'a, R> {
 impl<'a, R: Print> Sink for StdoutSink<'a, R> {
     ghost seen = { λ s. record { told = None; faults = s.faults } };
 
-    #[tactic(auto, unfolding(crate::specs::Told::extended))]
+    #[tactic(auto, unfolding(crate::specs::Content::told_with))]
     fn put(&mut self, piece: &[u8]) -> Result<usize, Failed> {
         match io::writer(self.to).write(piece) {
             Ok(0) => {

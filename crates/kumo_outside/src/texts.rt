@@ -1,7 +1,7 @@
 //! Where texts are read from.
 ghost use Rattle.std.specs.Prelude.{◌≡◌, ◌<◌, ◌≤◌, length, IfOk, IfSome};
 ghost use Rattle.kumo_base.specs.Causes.{HasCause};
-ghost use Rattle.kumo_outside.specs.Told.{TextsSeen, Places};
+ghost use Rattle.kumo_outside.specs.Content.{TextsSeen, Places};
 
 use kumo_base::Failed;
 

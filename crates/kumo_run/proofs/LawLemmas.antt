@@ -1,5 +1,6 @@
 -- What follows of how a command ends.
-use Rattle.std.proofs.Common.{◌≡◌, ℕ, ◌≤◌, List, length, Option, Some, refl, ap, subst, inl, inr, arith}
+use Rattle.std.proofs.Common.{◌≡◌, ℕ, ◌≤◌, List, [], ◌∷◌, length, All, Option, Some, false, refl, sym, ◌∙◌, subst, inl, inr, arith}
+use Rattle.std.proofs.lemmas.Bool.{false≢true}
 use Rattle.kumo_outside.specs.declared.session.Session.{Session}
 use Rattle.queue_name.specs.declared.message.Message.{Message}
 use Rattle.history_core.specs.declared.entry.Entry.{Entry}
@@ -9,10 +10,10 @@ use Rattle.policy_texts.specs.Texts.{too_long}
 use Rattle.kumo_run.specs.declared.refusal.Refusal.{Refusal}
 use Rattle.kumo_run.specs.declared.refusal.Refusal.TheVariants as refusal
 use Rattle.kumo_run.specs.RefusalLine.{status_of}
-use Rattle.kumo_run.specs.StatusCode.{number_of}
+use Rattle.kumo_run.specs.StatusCode.{status_number}
 use Rattle.kumo_run.specs.Outside.{Outside}
-use Rattle.kumo_run.specs.MailRead.{MailRead, too_long as too_long_mail, mail_gives, mail_read, IsMany}
-use Rattle.kumo_run.specs.Ending.{Ending, done, unwritten, unfinished, refused, code_of, Printed}
+use Rattle.kumo_run.specs.MailRead.{MailRead, too_long as too_long_mail, mail_gives, mail_read, has_later, IsTooMuch, IsNotYetSent}
+use Rattle.kumo_run.specs.Ending.{Ending, done, unwritten, unfinished, refused, status_code_of, Printed}
 use Rattle.kumo_run.specs.Deeds.{Deed, MailSays}
 use Rattle.kumo_run.specs.Causes.{Inputs, no_command, unbuilt, policy, mail, inputs_of, Cause}
 use Rattle.kumo_run.specs.Ends.{Did, EndsCommand}
@@ -28,14 +29,23 @@ other_mail found x y e h = cc
 same_messages : (x y : List Message) → messages x ≡ messages y → x ≡ y
 same_messages x y e = cc
 
-not_many : (list : List Message) (found : MailRead) → found ≡ mail_gives (messages list) → length list ≤ 1 → IsMany found → ⊥
-not_many list found gives few many =
-    let same : length list ≡ length many.mail = ap length (same_messages list many.mail (other_mail found _ _ gives many.read)) in
-    let more = many.many in
-    omega (arith, same, more, few)
+none_later : (list : List Message) → length list ≤ 1 → All (λ m. m.created ≡ 0) list → has_later list ≡ false
+none_later [] few due = refl
+none_later (m ∷ []) few due = let at_0 : m.created ≡ 0 = due 0 m (omega arith) in rw at_0 refl
+none_later (m ∷ n ∷ more) few due = absurd (omega (arith, few))
+
+not_too_much : (list : List Message) → length list ≤ 1 → All (λ m. m.created ≡ 0) list → IsTooMuch list → ⊥
+not_too_much list few due too_much =
+    elim too_much [ inl many ↦ omega (arith, many, few) | inr later ↦ false≢true (sym (none_later list few due) ∙ later) ]
+
+sent_so_far : (list : List Message) (found : MailRead) → found ≡ mail_gives (messages list) → length list ≤ 1 → All (λ m. m.created ≡ 0) list
+    → IsNotYetSent found → ⊥
+sent_so_far list found gives few due unsent =
+    let same : unsent.mail ≡ list = same_messages unsent.mail list (other_mail found _ _ unsent.read gives) in
+    not_too_much list few due (subst IsTooMuch same unsent.too_much)
 
 module _ (b a : Outside) (calm : IsCalm b a) where
-  refused_well : (i : Inputs) (d : Deed) (why : Refusal) → IsGood i b → Cause i b a d why → EndsWell i b (number_of (status_of why)) d.sessions
+  refused_well : (i : Inputs) (d : Deed) (why : Refusal) → IsGood i b → Cause i b a d why → EndsWell i b (status_number (status_of why)) d.sessions
   refused_well no_command d why good cause = absurd good
   refused_well unbuilt d why good cause = absurd good
   refused_well (policy names) d refusal.Usage good cause = absurd cc
@@ -65,11 +75,12 @@ module _ (b a : Outside) (calm : IsCalm b a) where
   refused_well (mail name) d refusal.Memory good cause = inr (inl refl)
   refused_well (mail name) d refusal.NotYetWords good cause = absurd cc
   refused_well (mail name) d refusal.NotYetMail good cause =
-      absurd (not_many good.list (mail_read good.text) good.gives good.few (said_of (b.texts.told name) good.text IsMany good.told_is cause))
+      absurd (sent_so_far good.list (mail_read good.text) good.gives good.few good.due
+      (said_of (b.texts.told name) good.text IsNotYetSent good.told_is cause))
   refused_well (mail name) d refusal.NotYetReply good cause = inr (inr cause)
 
   by_ending : (c : Option Command) (ending : Ending) (d : Deed) → IsGood (inputs_of c) b → Did ending c b a d
-      → Printed ending b.out a.out d.text → EndsWell (inputs_of c) b (code_of ending) d.sessions
+      → Printed ending b.out a.out d.text → EndsWell (inputs_of c) b (status_code_of ending) d.sessions
   by_ending c done d good did printed = inl refl
   by_ending c unwritten d good did printed = absurd (calm.out printed.0)
   by_ending c unfinished d good did printed = inr (inl refl)

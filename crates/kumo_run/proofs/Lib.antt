@@ -1,4 +1,6 @@
 mod ResultLemmas
+mod PlainLemmas
+mod SweepLemmas
 mod StepLemmas
 mod SessionLemmas
 mod MailLemmas

@@ -1,7 +1,7 @@
 -- A fault of policy texts has its cause as a refusal too.
 use Rattle.std.proofs.Common.{◌≡◌, Result, IfErr, refl, sym, subst}
 use Rattle.std.proofs.lemmas.Result.{IfErr-weaker}
-use Rattle.kumo_outside.specs.Told.{TextsSeen}
+use Rattle.kumo_outside.specs.Content.{TextsSeen}
 use Rattle.kumo_outside.specs.Search.{SearchSeen}
 use Rattle.command_words.specs.Commands.{PolicyNames}
 use Rattle.policy_texts.specs.declared.load.LoadFault.{LoadFault}

@@ -4,11 +4,11 @@ use Rattle.queue_name.specs.declared.message.Message.{Message}
 use Rattle.kumo_outside.specs.declared.session.Session.{Session}
 use Rattle.kumo_outside.specs.declared.text_reader.TheConstants.{TEXT_LIMIT}
 use Rattle.kumo_outside.specs.Reading.{IsReadUpTo}
-use Rattle.kumo_outside.specs.Told.{TextsSeen}
+use Rattle.kumo_outside.specs.Content.{TextsSeen}
 use Rattle.mail_input.specs.Inputs.{messages, refused}
 use Rattle.kumo_run.specs.declared.refusal.Refusal.{Refusal}
 use Rattle.kumo_run.specs.declared.refusal.Refusal.TheVariants as refusal
-use Rattle.kumo_run.specs.MailRead.{MailRead, too_long, mail_gives, mail_read, IsMany}
+use Rattle.kumo_run.specs.MailRead.{MailRead, too_long, mail_gives, mail_read, IsNotYetSent}
 use Rattle.scripted_peer.specs.ScriptedPeer.{LinkerState}
 use Rattle.kumo_run.specs.Deeds.{MailSays, deed_of_sessions, all_sessions}
 use Rattle.kumo_run.specs.Causes.{RefusesMail}
@@ -42,8 +42,8 @@ module _ (before after : TextsSeen) (name : List ℕ) where
 
     pub stops_short : (why : Refusal) → StopsShort why mail sessions → RefusesMail before after name sessions why
     stops_short refusal.Memory none = λ b a searching searched. (ap deed_of_sessions none, tt)
-    stops_short refusal.NotYetMail (many, none) = λ b a searching searched.
-        (ap deed_of_sessions none, says_more (before.told name) (λ found. found ≡ mail_gives (messages mail)) IsMany (λ found e. record { mail = mail; read = e; many = many }) given)
+    stops_short refusal.NotYetMail (too_much, none) = λ b a searching searched.
+        (ap deed_of_sessions none, says_more (before.told name) (λ found. found ≡ mail_gives (messages mail)) IsNotYetSent (λ found e. record { mail = mail; read = e; too_much = too_much }) given)
     stops_short refusal.NotYetReply (m, s, is, sessions_are, short) = λ b a searching searched.
         (refl, record { message = m; session = s; given = as_one m is; sessions_are = sessions_are; session_is = short })
     stops_short _ h = absurd h

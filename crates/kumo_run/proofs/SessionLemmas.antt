@@ -3,15 +3,15 @@ use Rattle.std.proofs.Common.{◌≡◌, ℕ, ◌⊎◌, List, [], ◌∷◌, �
 use Rattle.std.proofs.lemmas.Bool.{false≢true}
 use Rattle.std.proofs.lemmas.Option.{same_Some}
 use Rattle.kumo_base.specs.Causes.{Rose}
-use Rattle.kumo_outside.specs.Told.{extended, TakesFront}
+use Rattle.kumo_outside.specs.Content.{told_with, TakesPrefix}
 use Rattle.kumo_outside.specs.Sessions.{LinkSeen, session_of}
 use Rattle.queue_name.specs.declared.message.Message.{Message}
 use Rattle.kumo_outside.specs.declared.session.Session.{Session}
 use Rattle.smtp_reply.specs.declared.reply.Reply.{Reply}
 use Rattle.smtp_reply.specs.declared.reply.Outcome.{Outcome}
 use Rattle.smtp_reply.specs.declared.reply.Outcome.TheVariants.{Delivered}
-use Rattle.kumo_outside.proofs.ToldLemmas.{extended-told, TakesFront-whole, TakesFront-more, TakesProperFront-more}
-use Rattle.smtp_dialogue.specs.Transcript.{Spoken, Standing, alive, over, waiting, is_alive, joined_at, followed_by, greeting, attempted, parting, attempts, before_parting, transcript, IsFront}
+use Rattle.kumo_outside.proofs.ContentLemmas.{told_with-told, TakesPrefix-whole, TakesPrefix-more, TakesProperPrefix-more}
+use Rattle.smtp_dialogue.specs.Transcript.{Spoken, Standing, alive, over, waiting, is_alive, joined_at, followed_by, greeting, attempted, parting, attempts, before_parting, transcript, IsPrefix}
 use Rattle.smtp_dialogue.specs.Speaks.{Side, side, WentThrough, IsCutShort, Speaks, with_more, IsStable}
 use Rattle.smtp_dialogue.proofs.Stability.{parts_stable, greeting_stable, attempts_stable}
 use Rattle.smtp_dialogue.proofs.Following.{followed}
@@ -38,20 +38,20 @@ sent_first waiting first next = ([], sym (append-nil first.sent))
 -- ---- what is said of the bytes sent and the end, whatever came of the messages
 
 pub record Shows (t : Spoken) (old new : Side) : Type 0 where
-  pub front : TakesFront old.link.sent new.link.sent t.sent
-  pub whole : (Rose old.link.faults new.link.faults → ⊥) → new.link.sent ≡ extended old.link.sent t.sent
+  pub prefix : TakesPrefix old.link.sent new.link.sent t.sent
+  pub whole : (Rose old.link.faults new.link.faults → ⊥) → new.link.sent ≡ told_with old.link.sent t.sent
   pub ended : (Rose old.link.faults new.link.faults → ⊥) → t.standing ≡ waiting → new.link.ended ≡ true
 
 shows_whole : (t : Spoken) (old new : Side) (outcomes : List Outcome) (a : Bool) → WentThrough t old new outcomes a → Shows t old new
 shows_whole t old new outcomes a w = record {
-  front = TakesFront-whole old.link.sent new.link.sent t.sent w.sent;
+  prefix = TakesPrefix-whole old.link.sent new.link.sent t.sent w.sent;
   whole = λ calm. w.sent;
   ended = λ calm waits. w.waited waits;
 }
 
 shows_cut : (t : Spoken) (old new : Side) (f outcomes : List Outcome) (a : Bool) → IsCutShort t old new f outcomes a → Shows t old new
 shows_cut t old new f outcomes a c = record {
-  front = c.front;
+  prefix = c.prefix;
   whole = λ calm. absurd (calm c.rose);
   ended = λ calm waits. absurd (calm c.rose);
 }
@@ -67,7 +67,7 @@ shows_cut_halted : (first : Spoken) (next : List ℕ → Spoken) (old new : Side
 shows_cut_halted first next old new f outcomes c =
     let behind = sent_first first.standing first next in
     record {
-      front = rw behind.1 (TakesFront-more old.link.sent new.link.sent first.sent behind.0 c.front);
+      prefix = rw behind.1 (TakesPrefix-more old.link.sent new.link.sent first.sent behind.0 c.prefix);
       whole = λ calm. absurd (calm c.rose);
       ended = λ calm waits. absurd (calm c.rose);
     }
@@ -90,10 +90,10 @@ halts_cut first next old new c =
       rose = c.rose;
       alive_is = c.alive_is;
       not_ended = c.not_ended;
-      front = rw behind.1 (TakesFront-more old.link.sent new.link.sent first.sent behind.0 c.front);
+      prefix = rw behind.1 (TakesPrefix-more old.link.sent new.link.sent first.sent behind.0 c.prefix);
       short = elim c.short [
         | inl waits ↦ inl (ap (λ (t : Spoken). t.standing) (waiting_stops first.standing first next waits) ∙ waits)
-        | inr part ↦ inr (rw behind.1 (TakesProperFront-more old.link.sent new.link.sent first.sent behind.0 part))
+        | inr part ↦ inr (rw behind.1 (TakesProperPrefix-more old.link.sent new.link.sent first.sent behind.0 part))
       ];
       outcomes_are = inl refl;
     }
@@ -144,32 +144,32 @@ calm_at_zero : (f n : ℕ) → f ≡ 0 → n ≡ 0 → Rose f n → ⊥
 calm_at_zero f n e z r = omega arith
 
 module _ (m : Message) (k : LinkSeen) (fresh : IsFreshLink k) where
-  told_bytes : (new : Option (List ℕ)) (old : Option (List ℕ)) (bytes : List ℕ) → old ≡ Some [] → new ≡ extended old bytes → new ≡ Some bytes
-  told_bytes new old bytes at added = added ∙ ap (λ t. extended t bytes) at ∙ extended-told [] bytes
+  told_bytes : (new : Option (List ℕ)) (old : Option (List ℕ)) (bytes : List ℕ) → old ≡ Some [] → new ≡ told_with old bytes → new ≡ Some bytes
+  told_bytes new old bytes at added = added ∙ ap (λ t. told_with t bytes) at ∙ told_with-told [] bytes
 
-  tells : (new : Side) (more : List ℕ) (P : Session → Type 0) → new.link.got ≡ extended k.got more
+  tells : (new : Side) (more : List ℕ) (P : Session → Type 0) → new.link.got ≡ told_with k.got more
       → Shows (transcript localhost (m ∷ []) more) (side k []) new
       → ((sent : List ℕ) → new.link.sent ≡ Some sent → P (session_of new.link sent more))
       → Tells m new.link P
   tells new more P grows shown decided =
-      let front = shown.front in
-      let sent_is : new.link.sent ≡ Some front.0 = told_bytes new.link.sent k.sent front.0 fresh.sent_is front.2.added in
+      let prefix = shown.prefix in
+      let sent_is : new.link.sent ≡ Some prefix.0 = told_bytes new.link.sent k.sent prefix.0 fresh.sent_is prefix.2.added in
       record {
-        sent_bytes = front.0;
+        sent_bytes = prefix.0;
         got_bytes = more;
         sent_is = sent_is;
         got_is = told_bytes new.link.got k.got more fresh.got_is grows;
         transcript = record {
-          front = (front.1, front.2.whole);
+          prefix = (prefix.1, prefix.2.whole);
           whole = λ calm. same_Some _ _ (sym sent_is ∙ told_bytes new.link.sent k.sent _ fresh.sent_is (shown.whole (calm_at_zero k.faults new.link.faults fresh.faults_are calm)));
           ended = λ calm waits. shown.ended (calm_at_zero k.faults new.link.faults fresh.faults_are calm) waits;
         };
-        decided = decided front.0 sent_is;
+        decided = decided prefix.0 sent_is;
       }
 
-  longer_front : (front rest behind whole sent : List ℕ) → front ++ rest ≡ whole → whole ++ behind ≡ sent → sent ≡ front → (rest ≡ [] → ⊥) → ⊥
-  longer_front front [] behind whole sent a b c left = left refl
-  longer_front front (x ∷ rest) behind whole sent a b c left =
+  longer_prefix : (prefix rest behind whole sent : List ℕ) → prefix ++ rest ≡ whole → whole ++ behind ≡ sent → sent ≡ prefix → (rest ≡ [] → ⊥) → ⊥
+  longer_prefix prefix [] behind whole sent a b c left = left refl
+  longer_prefix prefix (x ∷ rest) behind whole sent a b c left =
       let la = ap length a in let lb = ap length b in let lc = ap length c in
       omega (arith, simp length-append at la, simp length-append at lb, lc)
 
@@ -177,11 +177,11 @@ module _ (m : Message) (k : LinkSeen) (fresh : IsFreshLink k) where
   undelivered_whole t new outcomes w through = false≢true (w.alive_is ∙ ap is_alive through)
 
   undelivered_cut : (t : Spoken) (new : Side) (at_fault outcomes : List Outcome) (sent : List ℕ) → IsCutShort t (side k []) new at_fault outcomes false
-      → new.link.sent ≡ Some sent → t.standing ≡ alive → IsFront t.sent sent → ⊥
-  undelivered_cut t new at_fault outcomes sent c is through front =
+      → new.link.sent ≡ Some sent → t.standing ≡ alive → IsPrefix t.sent sent → ⊥
+  undelivered_cut t new at_fault outcomes sent c is through prefix =
       elim c.short [
         | inl waits ↦ absurd cc
-        | inr part ↦ longer_front part.0 part.1 front.0 t.sent sent part.2.whole front.1
+        | inr part ↦ longer_prefix part.0 part.1 prefix.0 t.sent sent part.2.whole prefix.1
             (same_Some _ _ (sym is ∙ told_bytes new.link.sent k.sent part.0 fresh.sent_is part.2.added)) part.3
       ]
 
@@ -224,7 +224,7 @@ module _ (m : Message) (k : LinkSeen) (fresh : IsFreshLink k) where
   abbrev Settles : List ℕ → Side → Outcome → Type 0
   Settles got at decided =
       let t = before_parting localhost (m ∷ []) got in
-      (t.standing ≡ alive) × (t.outcomes ≡ decided ∷ []) × (at.link.sent ≡ extended k.sent t.sent)
+      (t.standing ≡ alive) × (t.outcomes ≡ decided ∷ []) × (at.link.sent ≡ told_with k.sent t.sent)
 
   settles_alive : (at : Side) (at_fault : List Outcome) (decided : Outcome) (x : Speaks (before_parting localhost (m ∷ [])) (side k []) at at_fault (decided ∷ []) true) → Settles x.more at decided
   settles_alive at at_fault decided x =
@@ -241,12 +241,12 @@ module _ (m : Message) (k : LinkSeen) (fresh : IsFreshLink k) where
   first_outcome a b h = cc
 
   -- what a session that went on to QUIT tells of the attempt
-  up_to_quit_is : (x y sent behind : List ℕ) (at new : Side) (decided : Outcome) → Settles x at decided → new.link.sent ≡ extended at.link.sent behind → new.link.sent ≡ Some sent
-      → let t = before_parting localhost (m ∷ []) (x ++ y) in (t.standing ≡ alive) × (t.outcomes ≡ decided ∷ []) × IsFront t.sent sent
+  up_to_quit_is : (x y sent behind : List ℕ) (at new : Side) (decided : Outcome) → Settles x at decided → new.link.sent ≡ told_with at.link.sent behind → new.link.sent ≡ Some sent
+      → let t = before_parting localhost (m ∷ []) (x ++ y) in (t.standing ≡ alive) × (t.outcomes ≡ decided ∷ []) × IsPrefix t.sent sent
   up_to_quit_is x y sent behind at new decided settled added is =
       let t : Spoken = before_parting localhost (m ∷ []) x in
       let at_sent : at.link.sent ≡ Some t.sent = told_bytes at.link.sent k.sent t.sent fresh.sent_is settled.2 in
-      let whole : t.sent ++ behind ≡ sent = same_Some _ _ (sym (added ∙ ap (λ b. extended b behind) at_sent ∙ extended-told t.sent behind) ∙ is) in
+      let whole : t.sent ++ behind ≡ sent = same_Some _ _ (sym (added ∙ ap (λ b. told_with b behind) at_sent ∙ told_with-told t.sent behind) ∙ is) in
       rw (same_before x y settled.0) (settled.0, settled.1, (behind, whole))
 
   -- an attempt that left the link alive, and QUIT
@@ -259,16 +259,16 @@ module _ (m : Message) (k : LinkSeen) (fresh : IsFreshLink k) where
     got_both : both.more ≡ x.more ++ y.more
     got_both =
         let at_got : at.link.got ≡ Some x.more = told_bytes at.link.got k.got x.more fresh.got_is x.grows in
-        let new_got : new.link.got ≡ Some (x.more ++ y.more) = y.grows ∙ ap (λ b. extended b y.more) at_got ∙ extended-told x.more y.more in
+        let new_got : new.link.got ≡ Some (x.more ++ y.more) = y.grows ∙ ap (λ b. told_with b y.more) at_got ∙ told_with-told x.more y.more in
         same_Some _ _ (sym (told_bytes new.link.got k.got both.more fresh.got_is both.grows) ∙ new_got)
 
-    quit_front : TakesFront at.link.sent new.link.sent (parting (at.unread ++ y.more)).sent
-    quit_front = (shows parting at new [] [] false y).front
+    quit_prefix : TakesPrefix at.link.sent new.link.sent (parting (at.unread ++ y.more)).sent
+    quit_prefix = (shows parting at new [] [] false y).prefix
 
     told_up_to_quit : (sent : List ℕ) → new.link.sent ≡ Some sent
-        → let t = before_parting localhost (m ∷ []) both.more in (t.standing ≡ alive) × (t.outcomes ≡ decided ∷ []) × IsFront t.sent sent
+        → let t = before_parting localhost (m ∷ []) both.more in (t.standing ≡ alive) × (t.outcomes ≡ decided ∷ []) × IsPrefix t.sent sent
     told_up_to_quit sent is =
-        rw got_both (up_to_quit_is x.more y.more sent quit_front.0 at new decided (settles_alive at at_fault decided x) quit_front.2.added is)
+        rw got_both (up_to_quit_is x.more y.more sent quit_prefix.0 at new decided (settles_alive at at_fault decided x) quit_prefix.2.added is)
 
     tells_parted : (P : Session → Type 0) → ((sent : List ℕ) → new.link.sent ≡ Some sent → P (session_of new.link sent both.more))
         → Tells m new.link P

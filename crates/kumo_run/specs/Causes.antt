@@ -3,7 +3,7 @@ use Rattle.std.specs.Prelude.{◌≡◌, ℕ, List, [], ◌∷◌, Option, Some,
 use Rattle.kumo_base.specs.Causes.{Rose}
 use Rattle.queue_name.specs.declared.message.Message.{Message}
 use Rattle.kumo_outside.specs.declared.session.Session.{Session}
-use Rattle.kumo_outside.specs.Told.{TextsSeen, SinkSeen}
+use Rattle.kumo_outside.specs.Content.{TextsSeen, SinkSeen}
 use Rattle.kumo_outside.specs.Search.{SearchSeen}
 use Rattle.mail_input.specs.Inputs.{messages, refused as refused_mail}
 use Rattle.command_words.specs.Commands.{PolicyNames, Command, check, explain, spool, send, crew, load}
@@ -11,7 +11,7 @@ use Rattle.policy_texts.specs.Texts.{Stop, too_long, refused as refused_text}
 use Rattle.policy_texts.specs.Policies.{Stops}
 use Rattle.kumo_run.specs.declared.refusal.Refusal.{Refusal}
 use Rattle.kumo_run.specs.declared.refusal.Refusal.TheVariants as refusal
-use Rattle.kumo_run.specs.MailRead.{MailRead, too_long as too_long_mail, mail_gives, IsMany}
+use Rattle.kumo_run.specs.MailRead.{MailRead, too_long as too_long_mail, mail_gives, IsNotYetSent}
 use Rattle.kumo_run.specs.Delivery.{IsSessionOf, IsNotDelivered}
 use Rattle.kumo_run.specs.Outside.{Outside, outside}
 use Rattle.kumo_run.specs.Deeds.{Deed, nothing_done, deed_of_sessions, MailSays, asks_for_mail_alone}
@@ -87,7 +87,7 @@ Cause i b a d refusal.SearchFault = HasPolicy i × Rose b.search.faults a.search
 Cause i b a d refusal.Limit = IsTooLong i b
 Cause i b a d refusal.Memory = HasTexts i
 Cause i b a d refusal.NotYetWords = i ≡ unbuilt
-Cause i b a d refusal.NotYetMail = MailGives i b IsMany
+Cause i b a d refusal.NotYetMail = MailGives i b IsNotYetSent
 Cause i b a d refusal.NotYetReply = HasOneSession i b d.sessions FallsShort
 
 -- what was done before a refusal: nothing; a receiver was spoken to where it did not take the message

@@ -5,7 +5,7 @@ use Rattle.kumo_outside.specs.declared.session.Session.{Session}
 use Rattle.smtp_reply.specs.declared.reply.Reply.{Reply}
 use Rattle.smtp_reply.specs.declared.reply.Outcome.TheVariants.{Delivered}
 use Rattle.policy_core.specs.Limits.{unspecified, localhost}
-use Rattle.smtp_dialogue.specs.Transcript.{Spoken, alive, before_parting, IsFront, IsTranscript}
+use Rattle.smtp_dialogue.specs.Transcript.{Spoken, alive, before_parting, IsPrefix, IsTranscript}
 
 -- the greeting and the attempt, for the bytes that the session got
 abbrev pub up_to_quit : Message → Session → Spoken
@@ -15,7 +15,7 @@ up_to_quit m s = before_parting localhost (m ∷ []) s.got
 pub record IsDeliveredBy (m : Message) (reply : Reply) (s : Session) : Type 0 where
   pub through : (up_to_quit m s).standing ≡ alive
   pub outcome : (up_to_quit m s).outcomes ≡ Delivered reply ∷ []
-  pub sent : IsFront (up_to_quit m s).sent s.sent
+  pub sent : IsPrefix (up_to_quit m s).sent s.sent
 
 abbrev pub IsNotDelivered : Message → Session → Type 0
 IsNotDelivered m s = (reply : Reply) → IsDeliveredBy m reply s → ⊥

@@ -4,7 +4,7 @@ use Rattle.kumo_outside.specs.declared.session.Session.{Session}
 use Rattle.history_core.specs.declared.entry.Entry.{Entry}
 use Rattle.command_words.specs.Commands.{Command, command_of}
 use Rattle.kumo_run.specs.Outside.{Outside}
-use Rattle.kumo_run.specs.Ending.{Ending, done, unwritten, unfinished, refused, code_of, Printed}
+use Rattle.kumo_run.specs.Ending.{Ending, done, unwritten, unfinished, refused, status_code_of, Printed}
 use Rattle.kumo_run.specs.Deeds.{Deed, Does}
 use Rattle.kumo_run.specs.Causes.{inputs_of, Refuses}
 
@@ -25,7 +25,7 @@ pub record EndsCommand (c : Option Command) (b a : Outside) (code : ℕ) (histor
     : Type 0 where
   pub ending : Ending
   pub deed : Deed
-  pub status_is : code ≡ code_of ending
+  pub status_is : code ≡ status_code_of ending
   pub history_is : history ≡ deed.history
   pub sessions_are : sessions ≡ deed.sessions
   pub did : Did ending c b a deed

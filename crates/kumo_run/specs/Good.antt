@@ -1,5 +1,5 @@
 -- Good inputs, and a call in which no device failed.
-use Rattle.std.specs.Prelude.{◌≡◌, ◌⊎◌, ◌≤◌, ℕ, List, Option, Some, length}
+use Rattle.std.specs.Prelude.{◌≡◌, ◌⊎◌, ◌≤◌, ℕ, List, Option, Some, All, length}
 use Rattle.kumo_base.specs.Causes.{Rose}
 use Rattle.queue_name.specs.declared.message.Message.{Message}
 use Rattle.mail_input.specs.Inputs.{messages}
@@ -15,13 +15,14 @@ pub record IsCalm (b a : Outside) : Type 0 where
   pub out : Rose b.out.faults a.out.faults → ⊥
   pub search : Rose b.search.faults a.search.faults → ⊥
 
--- the mail text is told and gives one message or none
+-- the mail text is told and gives one message, which is due at moment 0, or none
 pub record IsGoodMail (told : Option (List ℕ)) : Type 0 where
   pub text : List ℕ
   pub list : List Message
   pub told_is : told ≡ Some text
   pub gives : mail_read text ≡ mail_gives (messages list)
   pub few : length list ≤ 1
+  pub due : All (λ m. m.created ≡ 0) list
 
 -- the texts give what the command needs; that no reason is found why texts give no policy says too that they are told
 abbrev pub IsGood : Inputs → Outside → Type 0

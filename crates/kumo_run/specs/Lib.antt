@@ -3,6 +3,7 @@ pub mod RefusalLine
 pub mod Outside
 pub mod MailRead
 pub mod Delivery
+pub mod PlainPolicy
 pub mod Run
 pub mod PolicyAnswers
 pub mod Ending

@@ -1,5 +1,5 @@
 -- What the devices of the outside show together, before a call or after it.
-use Rattle.kumo_outside.specs.Told.{TextsSeen, SinkSeen}
+use Rattle.kumo_outside.specs.Content.{TextsSeen, SinkSeen}
 use Rattle.kumo_outside.specs.Search.{SearchSeen}
 
 -- the texts that are read, the sink that is written and the search engine

@@ -1,7 +1,7 @@
 -- The texts that `check` and `explain` print.
 use Rattle.std.specs.Prelude.{◌≡◌, ℕ, List, Option}
 use Rattle.policy_core.specs.Policy.{Policy}
-use Rattle.policy_core.specs.declared.fault.Ignored.{Ignored}
+use Rattle.policy_fault.specs.declared.fault.Ignored.{Ignored}
 use Rattle.command_words.specs.Commands.{PolicyNames, Question}
 use Rattle.policy_texts.specs.Policies.{Loads}
 use Rattle.policy_texts.specs.Report.{IsCheckReport}

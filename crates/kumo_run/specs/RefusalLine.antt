@@ -2,9 +2,9 @@
 use Rattle.std.specs.Prelude.{ℕ, List, ◌++◌, codes, decimal}
 use Rattle.mail_input.specs.declared.MailWhy.{MailWhy}
 use Rattle.mail_input.specs.declared.MailWhy.TheVariants as why
-use Rattle.policy_core.specs.Words.{name_of_file, name_of_why}
-use Rattle.policy_core.specs.declared.fault.PolicyFile.{PolicyFile}
-use Rattle.policy_core.specs.declared.fault.Why.{Why}
+use Rattle.policy_fault.specs.Words.{name_of_file, name_of_why}
+use Rattle.policy_fault.specs.declared.fault.PolicyFile.{PolicyFile}
+use Rattle.policy_fault.specs.declared.fault.Why.{Why}
 use Rattle.kumo_run.specs.declared.refusal.Refusal.{Refusal}
 use Rattle.kumo_run.specs.declared.refusal.Refusal.TheVariants as refusal
 use Rattle.kumo_run.specs.declared.status.Status.{Status}

@@ -3,14 +3,14 @@ use Rattle.std.specs.Prelude.{ℕ}
 use Rattle.kumo_run.specs.declared.status.Status.{Status}
 use Rattle.kumo_run.specs.declared.status.Status.TheVariants.{Drained, Usage, Policy, Mail, ReadFault, WriteFault, Limit, Memory, NotYet, SearchFault}
 
-abbrev pub number_of : Status → ℕ
-number_of Drained = 0
-number_of Usage = 2
-number_of Policy = 3
-number_of Mail = 4
-number_of ReadFault = 5
-number_of WriteFault = 6
-number_of Limit = 10
-number_of Memory = 11
-number_of NotYet = 12
-number_of SearchFault = 16
+abbrev pub status_number : Status → ℕ
+status_number Drained = 0
+status_number Usage = 2
+status_number Policy = 3
+status_number Mail = 4
+status_number ReadFault = 5
+status_number WriteFault = 6
+status_number Limit = 10
+status_number Memory = 11
+status_number NotYet = 12
+status_number SearchFault = 16

@@ -51,7 +51,7 @@ impl From<Memory> for DeliveryFault {
     }
 }
 
-/// Delivers one message over one connection, and closes it. The history is that of the message up to the closing.
+/// Delivers one message that is due at moment 0 over one connection, and closes it. The history is that of the message up to the closing.
 /// After `NotDelivered` the linker tells the session that says so. Memory is taken before the link is opened: after `Memory` it
 /// tells no session more. The registry that is given has room for one entry more.
 pub fn deliver<K: Linker>(
@@ -59,7 +59,8 @@ pub fn deliver<K: Linker>(
     message: &Message,
     linker: &mut K,
 ) -> Result<Registry, DeliveryFault>
-    requires { IsProperMessage message.now }
+    requires proper { IsProperMessage message.now }
+    requires due { message.now.created ≡ 0 }
     ensures told { IfSome (K.seen linker.old).sessions
         (λ before. Delivers message.now result (K.seen linker.new).sessions before) }
     ensures fault { result ≡ Err DeliveryFault.NotOpened → Rose (K.seen linker.old).faults (K.seen linker.new).faults }
@@ -99,9 +100,10 @@ fn connect<K: Linker>(
     worked
 }
 
-/// A registry that took the message over and made it ready, with room for the entries to come.
+/// A registry that took a message over which is due at moment 0, and made it ready, with room for the entries to come.
 fn ready(alloc: Global, message: &Message) -> Result<Registry, Memory>
-    requires { IsProperMessage message.now }
+    requires proper { IsProperMessage message.now }
+    requires due { message.now.created ≡ 0 }
     ensures history { IfOk result (λ registry. registry.history ≡ after_promotion message.now) }
     ensures room { IfOk result (λ registry. ENTRIES ≤ registry.capacity) }
 {

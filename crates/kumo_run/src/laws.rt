@@ -12,5 +12,6 @@ ghost use Rattle.kumo_run.specs.Good.{IsGood, IsCalm, EndsWell};
 /// message did not take it.
 pub fn good_inputs_end_well()
     ensures { (c : Option Command) (b a : Outside) (code : ℕ) (history : Option (List Entry)) (sessions : List Session)
-        → EndsCommand c b a code history sessions → IsGood (inputs_of c) b → IsCalm b a → EndsWell (inputs_of c) b code sessions }
+        → EndsCommand c b a code history sessions → IsGood (inputs_of c) b → IsCalm b a
+        → EndsWell (inputs_of c) b code sessions }
 {}

@@ -14,7 +14,8 @@ use crate::refusal::Refusal;
 use command_words::{PolicyNames, Question};
 use kumo_base::{Memory, Text};
 use kumo_outside::{Search, Texts};
-use policy_core::{Ignored, Policy};
+use policy_core::Policy;
+use policy_fault::Ignored;
 use policy_texts::{LoadFault, explain_queue, load_policy, report_keys};
 use std::alloc::Global;
 
@@ -26,8 +27,8 @@ pub(crate) fn check_text<T: Texts, S: Search>(
     search: &mut S,
 ) -> Result<String, Refusal>
     ensures ok { IfOk result (λ text. IsCheckText (T.seen texts.old).told (seen_names names.now) (string_bytes text)) }
-    ensures err { IfErr result (λ why. RefusesPolicy (T.seen texts.old) (T.seen texts.new) (S.seen search.old) (S.seen search.new)
-        (seen_names names.now) why) }
+    ensures err { IfErr result (λ why. RefusesPolicy (T.seen texts.old) (T.seen texts.new)
+        (S.seen search.old) (S.seen search.new) (seen_names names.now) why) }
     ensures search { (S.seen search.old).faults ≤ (S.seen search.new).faults }
 {
     match load_policy(alloc, texts, names, search) {
@@ -45,7 +46,8 @@ pub(crate) fn explain_text<T: Texts, S: Search>(
 ) -> Result<Text, Refusal>
     requires { IsTrue (is_name (seen_question asked.now).name) }
     ensures ok { IfOk result (λ text. IsExplainText (T.seen texts.old).told (seen_question asked.now) text) }
-    ensures err { IfErr result (λ why. RefusesPolicy (T.seen texts.old) (T.seen texts.new) (S.seen search.old) (S.seen search.new)
+    ensures err { IfErr result (λ why. RefusesPolicy (T.seen texts.old) (T.seen texts.new)
+        (S.seen search.old) (S.seen search.new)
         (seen_names asked.now.texts) why) }
     ensures search { (S.seen search.old).faults ≤ (S.seen search.new).faults }
 {

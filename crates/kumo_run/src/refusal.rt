@@ -6,7 +6,7 @@
 //! its cause in `specs/Causes.antt`.
 ghost use Rattle.std.specs.Prelude.{◌≡◌, ◌≤◌, ◌++◌, OnOk, OnErr, codes, decimal};
 ghost use Rattle.kumo_base.specs.Causes.{Rose, HasCause};
-ghost use Rattle.kumo_outside.specs.Told.{extended, TakesFront};
+ghost use Rattle.kumo_outside.specs.Content.{told_with, TakesPrefix};
 ghost use Rattle.kumo_run.specs.RefusalLine.{refusal_line, status_of, end_of_line, policy_start, policy_place, policy_end};
 
 use crate::status::Status;
@@ -14,7 +14,7 @@ use itoa::Buffer;
 use kumo_base::Failed;
 use kumo_outside::{Sink, put_all};
 use mail_input::MailWhy;
-use policy_core::PolicyPlace;
+use policy_fault::PolicyPlace;
 
 /// Why no work was done.
 #[derive(Drop)]
@@ -58,11 +58,11 @@ impl Refusal {
         }
     }
 
-    /// Prints the refusal's line. Where the sink fails a front of it was printed; a refusal stays what it is.
+    /// Prints the refusal's line. Where the sink fails a prefix of it was printed; a refusal stays what it is.
     pub fn print<O: Sink>(&self, out: &mut O)
-        ensures front { TakesFront (O.seen out.old).told (O.seen out.new).told (refusal_line self.now) }
+        ensures prefix { TakesPrefix (O.seen out.old).told (O.seen out.new).told (refusal_line self.now) }
         ensures whole { (Rose (O.seen out.old).faults (O.seen out.new).faults → ⊥)
-            → (O.seen out.new).told ≡ extended (O.seen out.old).told (refusal_line self.now) }
+            → (O.seen out.new).told ≡ told_with (O.seen out.old).told (refusal_line self.now) }
         ensures later { (O.seen out.old).faults ≤ (O.seen out.new).faults }
     {
         match put_line(self, out) {
@@ -74,8 +74,8 @@ impl Refusal {
 
 /// Puts the refusal's line, without memory.
 fn put_line<O: Sink>(refusal: &Refusal, out: &mut O) -> Result<(), Failed>
-    ensures whole { OnOk result ((O.seen out.new).told ≡ extended (O.seen out.old).told (refusal_line refusal.now)) }
-    ensures part { OnErr result (TakesFront (O.seen out.old).told (O.seen out.new).told (refusal_line refusal.now)) }
+    ensures whole { OnOk result ((O.seen out.new).told ≡ told_with (O.seen out.old).told (refusal_line refusal.now)) }
+    ensures part { OnErr result (TakesPrefix (O.seen out.old).told (O.seen out.new).told (refusal_line refusal.now)) }
     ensures cause { HasCause (O.seen out.old).faults (O.seen out.new).faults result }
 {
     match refusal {
@@ -94,9 +94,9 @@ fn put_line<O: Sink>(refusal: &Refusal, out: &mut O) -> Result<(), Failed>
 
 /// Puts the line of a refused policy text.
 fn put_policy_line<O: Sink>(place: &PolicyPlace, out: &mut O) -> Result<(), Failed>
-    ensures whole { OnOk result ((O.seen out.new).told ≡ extended (O.seen out.old).told
+    ensures whole { OnOk result ((O.seen out.new).told ≡ told_with (O.seen out.old).told
         (refusal_line (Refusal.Policy place.now))) }
-    ensures part { OnErr result (TakesFront (O.seen out.old).told (O.seen out.new).told
+    ensures part { OnErr result (TakesPrefix (O.seen out.old).told (O.seen out.new).told
         (refusal_line (Refusal.Policy place.now))) }
     ensures cause { HasCause (O.seen out.old).faults (O.seen out.new).faults result }
 {
@@ -108,8 +108,9 @@ fn put_policy_line<O: Sink>(place: &PolicyPlace, out: &mut O) -> Result<(), Fail
 
 /// Puts the line of a refused mail line.
 fn put_mail_line<O: Sink>(line: u64, why: MailWhy, out: &mut O) -> Result<(), Failed>
-    ensures whole { OnOk result ((O.seen out.new).told ≡ extended (O.seen out.old).told (refusal_line (Refusal.Mail line why))) }
-    ensures part { OnErr result (TakesFront (O.seen out.old).told (O.seen out.new).told (refusal_line (Refusal.Mail line why))) }
+    ensures whole { OnOk result ((O.seen out.new).told
+        ≡ told_with (O.seen out.old).told (refusal_line (Refusal.Mail line why))) }
+    ensures part { OnErr result (TakesPrefix (O.seen out.old).told (O.seen out.new).told (refusal_line (Refusal.Mail line why))) }
     ensures cause { HasCause (O.seen out.old).faults (O.seen out.new).faults result }
 {
     let mut buffer = Buffer::new();
@@ -142,8 +143,8 @@ fn end_of_line(why: MailWhy) -> &'static str
 /// Puts three texts, one behind the other.
 fn put_three<O: Sink>(out: &mut O, first: &str, second: &str, third: &str) -> Result<(), Failed>
     ensures whole { OnOk result ((O.seen out.new).told
-        ≡ extended (O.seen out.old).told (first.now ++ (second.now ++ third.now))) }
-    ensures part { OnErr result (TakesFront (O.seen out.old).told (O.seen out.new).told
+        ≡ told_with (O.seen out.old).told (first.now ++ (second.now ++ third.now))) }
+    ensures part { OnErr result (TakesPrefix (O.seen out.old).told (O.seen out.new).told
         (first.now ++ (second.now ++ third.now))) }
     ensures cause { HasCause (O.seen out.old).faults (O.seen out.new).faults result }
 {
@@ -155,8 +156,8 @@ fn put_three<O: Sink>(out: &mut O, first: &str, second: &str, third: &str) -> Re
 
 /// Puts a text.
 fn put_text<O: Sink>(out: &mut O, text: &str) -> Result<(), Failed>
-    ensures whole { OnOk result ((O.seen out.new).told ≡ extended (O.seen out.old).told text.now) }
-    ensures part { OnErr result (TakesFront (O.seen out.old).told (O.seen out.new).told text.now) }
+    ensures whole { OnOk result ((O.seen out.new).told ≡ told_with (O.seen out.old).told text.now) }
+    ensures part { OnErr result (TakesPrefix (O.seen out.old).told (O.seen out.new).told text.now) }
     ensures cause { HasCause (O.seen out.old).faults (O.seen out.new).faults result }
 {
     put_all(out, text.as_bytes())

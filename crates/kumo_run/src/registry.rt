@@ -1,4 +1,4 @@
-//! The registry: the one history, kept legal. Each call is one turn, and appends an entry that may follow.
+//! The registry: the one history, kept legal under the plain policy. Each call is one turn, and appends an entry that may follow.
 //!
 //! This is where an attempt is allowed: `begin` may only be called where the definition of what may follow says so of
 //! the history, and no other code appends an entry. All memory is taken by `with_room`, before the first turn, so that no turn
@@ -6,6 +6,7 @@
 ghost use Rattle.std.specs.Prelude.{◌≡◌, ◌≤◌, [], ◌∷◌, ◌++◌, IfOk, vec_capacity};
 ghost use Rattle.history_core.specs.declared.entry.Event.{Event};
 ghost use Rattle.history_core.specs.Legal.{IsLegal, MayFollow};
+ghost use Rattle.kumo_run.specs.PlainPolicy.{plain_policy};
 ghost use Rattle.kumo_run.specs.inside.OneDelivery.{entry};
 ghost use Rattle.kumo_run.specs.inside.RegistryState.{RegistryState, HasRoom};
 
@@ -33,7 +34,7 @@ impl Model for Registry {
 
     ghost view = { λ r. record { history = r.entries.items; capacity = vec_capacity r.entries } };
 
-    ghost invariant = { λ r. IsLegal r.entries.items };
+    ghost invariant = { λ r. IsLegal plain_policy r.entries.items };
 }
 
 impl Registry {
@@ -48,7 +49,7 @@ impl Registry {
 
     /// Takes a message over.
     pub fn accept(&mut self, message: Message)
-        requires follows { MayFollow self.old.history (entry (Event.Accepted message)) }
+        requires follows { MayFollow plain_policy self.old.history (entry (Event.Accepted message)) }
         requires room { HasRoom self.old }
         ensures history { self.new.history ≡ self.old.history ++ entry (Event.Accepted message) ∷ [] }
         ensures capacity { self.new.capacity ≡ self.old.capacity }
@@ -58,7 +59,7 @@ impl Registry {
 
     /// Makes a message ready on the path from this source.
     pub fn promote(&mut self, id: u128, source: Text)
-        requires follows { MayFollow self.old.history (entry (Event.Promoted id source)) }
+        requires follows { MayFollow plain_policy self.old.history (entry (Event.Promoted id source)) }
         requires room { HasRoom self.old }
         ensures history { self.new.history ≡ self.old.history ++ entry (Event.Promoted id source) ∷ [] }
         ensures capacity { self.new.capacity ≡ self.old.capacity }
@@ -68,7 +69,7 @@ impl Registry {
 
     /// Opens a connection of a path.
     pub fn open(&mut self, conn: u64, path: Text)
-        requires follows { MayFollow self.old.history (entry (Event.Opened conn path 0)) }
+        requires follows { MayFollow plain_policy self.old.history (entry (Event.Opened conn path 0)) }
         requires room { HasRoom self.old }
         ensures history { self.new.history ≡ self.old.history ++ entry (Event.Opened conn path 0) ∷ [] }
         ensures capacity { self.new.capacity ≡ self.old.capacity }
@@ -78,7 +79,7 @@ impl Registry {
 
     /// Begins an attempt on a connection.
     pub fn begin(&mut self, conn: u64, id: u128)
-        requires follows { MayFollow self.old.history (entry (Event.Begun conn id 0)) }
+        requires follows { MayFollow plain_policy self.old.history (entry (Event.Begun conn id 0)) }
         requires room { HasRoom self.old }
         ensures history { self.new.history ≡ self.old.history ++ entry (Event.Begun conn id 0) ∷ [] }
         ensures capacity { self.new.capacity ≡ self.old.capacity }
@@ -88,7 +89,8 @@ impl Registry {
 
     /// Ends an attempt with its delivery.
     pub fn end_delivered(&mut self, conn: u64, id: u128, reply: Reply)
-        requires follows { MayFollow self.old.history (entry (Event.Ended conn id (Outcome.Delivered reply) Next.Settled)) }
+        requires follows { MayFollow plain_policy self.old.history
+            (entry (Event.Ended conn id (Outcome.Delivered reply) Next.Settled)) }
         requires room { HasRoom self.old }
         ensures history { self.new.history ≡ self.old.history
             ++ entry (Event.Ended conn id (Outcome.Delivered reply) Next.Settled) ∷ [] }
@@ -104,7 +106,7 @@ impl Registry {
 
     /// Closes a connection for which no ready message is left.
     pub fn close_empty(&mut self, conn: u64)
-        requires follows { MayFollow self.old.history (entry (Event.Closed conn Cause.Empty)) }
+        requires follows { MayFollow plain_policy self.old.history (entry (Event.Closed conn Cause.Empty)) }
         requires room { HasRoom self.old }
         ensures history { self.new.history ≡ self.old.history ++ entry (Event.Closed conn Cause.Empty) ∷ [] }
         ensures capacity { self.new.capacity ≡ self.old.capacity }
@@ -117,7 +119,7 @@ impl Registry {
 
     /// Ends the work.
     pub fn stop(&mut self)
-        requires follows { MayFollow self.old.history (entry Event.Stopped) }
+        requires follows { MayFollow plain_policy self.old.history (entry Event.Stopped) }
         requires room { HasRoom self.old }
         ensures history { self.new.history ≡ self.old.history ++ entry Event.Stopped ∷ [] }
         ensures capacity { self.new.capacity ≡ self.old.capacity }
@@ -128,7 +130,7 @@ impl Registry {
     /// Hands the history out. It is legal.
     pub fn into_history(self) -> History
         ensures same { result ≡ self.history }
-        ensures legal { IsLegal result }
+        ensures legal { IsLegal plain_policy result }
     {
         let Registry { entries } = self;
         History::of(entries)
@@ -136,7 +138,7 @@ impl Registry {
 
     /// Appends an entry that may follow.
     fn append(&mut self, what: Event)
-        requires follows { MayFollow self.old.history (entry what) }
+        requires follows { MayFollow plain_policy self.old.history (entry what) }
         requires room { HasRoom self.old }
         ensures history { self.new.history ≡ self.old.history ++ entry what ∷ [] }
         ensures capacity { self.new.capacity ≡ self.old.capacity }

@@ -8,7 +8,7 @@ ghost use Rattle.kumo_outside.specs.Search.{SearchSeen};
 ghost use Rattle.command_words.specs.Commands.{check, explain, send};
 ghost use Rattle.command_words.specs.SeenCommands.{seen_names, seen_question, seen_sending};
 ghost use Rattle.delivery_log.specs.LogText.{log_text};
-ghost use Rattle.kumo_run.specs.StatusCode.{number_of};
+ghost use Rattle.kumo_run.specs.StatusCode.{status_number};
 ghost use Rattle.kumo_run.specs.RefusalLine.{refusal_line, status_of};
 ghost use Rattle.kumo_run.specs.Outside.{outside};
 ghost use Rattle.kumo_run.specs.Ending.{WroteUnlessFailed};
@@ -97,7 +97,7 @@ fn run<T: Texts, O: Sink, S: Search>(
 ) -> Ended
     requires { peers.old.items ≡ [] }
     ensures ends { Ends words.now (outside (T.seen texts.old) (O.seen out.old) (S.seen search.old))
-        (outside (T.seen texts.new) (O.seen out.new) (S.seen search.new)) (number_of result.status) result.history
+        (outside (T.seen texts.new) (O.seen out.new) (S.seen search.new)) (status_number result.status) result.history
         (all_sessions peers.new.items) }
     ensures search { (S.seen search.old).faults ≤ (S.seen search.new).faults }
 {
@@ -123,7 +123,7 @@ fn run_send<T: Texts, O: Sink>(
     requires { peers.old.items ≡ [] }
     ensures { (search : SearchSeen) → EndsCommand (Some (send (seen_sending sending.now)))
         (outside (T.seen texts.old) (O.seen out.old) search) (outside (T.seen texts.new) (O.seen out.new) search)
-        (number_of result.status) result.history (all_sessions peers.new.items) }
+        (status_number result.status) result.history (all_sessions peers.new.items) }
 {
     if !asks_for_mail_alone(sending) {
         return refused(Refusal::NotYetWords, out);
@@ -172,7 +172,7 @@ fn run_check<T: Texts, O: Sink, S: Search>(
 ) -> Ended
     ensures ends { EndsCommand (Some (check (seen_names names.now)))
         (outside (T.seen texts.old) (O.seen out.old) (S.seen search.old))
-        (outside (T.seen texts.new) (O.seen out.new) (S.seen search.new)) (number_of result.status) result.history [] }
+        (outside (T.seen texts.new) (O.seen out.new) (S.seen search.new)) (status_number result.status) result.history [] }
     ensures search { (S.seen search.old).faults ≤ (S.seen search.new).faults }
 {
     match check_text(alloc, texts, names, search) {
@@ -192,7 +192,7 @@ fn run_explain<T: Texts, O: Sink, S: Search>(
     requires { IsTrue (is_name (seen_question asked.now).name) }
     ensures ends { EndsCommand (Some (explain (seen_question asked.now)))
         (outside (T.seen texts.old) (O.seen out.old) (S.seen search.old))
-        (outside (T.seen texts.new) (O.seen out.new) (S.seen search.new)) (number_of result.status) result.history [] }
+        (outside (T.seen texts.new) (O.seen out.new) (S.seen search.new)) (status_number result.status) result.history [] }
     ensures search { (S.seen search.old).faults ≤ (S.seen search.new).faults }
 {
     match explain_text(alloc, texts, asked, search) {

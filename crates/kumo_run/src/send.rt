@@ -88,7 +88,7 @@ fn refusal_of(fault: MailFault) -> Refusal
     }
 }
 
-/// Sends the messages to peers that reply so. More than one is not sent yet.
+/// Sends the messages to peers that reply so. More than one is not sent yet, nor one that is due after moment 0.
 fn send(
     alloc: Global,
     messages: &[Message],
@@ -121,7 +121,7 @@ fn send_nothing(alloc: Global) -> Result<History, Refusal>
     }
 }
 
-/// The run of one message.
+/// The run of one message, where it is due at moment 0.
 fn send_one(
     alloc: Global,
     message: &Message,
@@ -129,6 +129,25 @@ fn send_one(
     peers: &mut Vec<ScriptedLinker>,
 ) -> Result<History, Refusal>
     requires proper { IsProperMessage message.now }
+    requires none { peers.old.items ≡ [] }
+    ensures ok { IfOk result (λ h. IsRun (message.now ∷ []) h (all_sessions peers.new.items)) }
+    ensures err { IfErr result (λ why. StopsShort why (message.now ∷ []) (all_sessions peers.new.items)) }
+{
+    if message.created > 0 {
+        return Err(Refusal::NotYetMail);
+    }
+    send_due(alloc, message, says, peers)
+}
+
+/// The run of one message that is due at moment 0.
+fn send_due(
+    alloc: Global,
+    message: &Message,
+    says: PeerReplies,
+    peers: &mut Vec<ScriptedLinker>,
+) -> Result<History, Refusal>
+    requires proper { IsProperMessage message.now }
+    requires due { message.now.created ≡ 0 }
     requires none { peers.old.items ≡ [] }
     ensures ok { IfOk result (λ h. IsRun (message.now ∷ []) h (all_sessions peers.new.items)) }
     ensures err { IfErr result (λ why. StopsShort why (message.now ∷ []) (all_sessions peers.new.items)) }

@@ -11,8 +11,8 @@ use Rattle.policy_core.proofs.MxLemmas.{text_cmp, first_of_both, second_of_both}
 use Rattle.policy_core.specs.declared.mx.MxRow.{MxRow}
 use Rattle.policy_core.specs.Mx.{comes_before, ascend_behind, ascend, has_hosts, is_mx_table}
 use Rattle.mx_table.specs.MxText.{row, gives, Joins}
-use Rattle.mx_table.specs.inside.Joined.{domains}
-use Rattle.mx_table.proofs.JoinLemmas.{given}
+use Rattle.mx_table.specs.inside.Merged.{domains}
+use Rattle.mx_table.proofs.MergeLemmas.{given}
 
 less_by : (o : Ordering) → is_lt o ≡ true → o ≡ Less
 less_by Less e = refl

@@ -1,6 +1,6 @@
 pub mod NameLemmas
 pub mod WordLemmas
 pub mod HostLemmas
-pub mod JoinLemmas
+pub mod MergeLemmas
 pub mod LawLemmas
 pub mod NamedLemmas

@@ -5,12 +5,12 @@ use Rattle.std.proofs.lemmas.List.Folds.{list_all-append}
 use Rattle.std.proofs.lemmas.Slice.Eq.{bytes_eq-Decides}
 use Rattle.policy_core.proofs.MxLemmas.{first_of_both, second_of_both}
 use Rattle.policy_core.specs.declared.mx.MxRow.{MxRow}
-use Rattle.policy_core.specs.declared.fault.Why.{Why}
-use Rattle.policy_core.specs.declared.fault.Why.TheVariants.{BadName}
+use Rattle.policy_fault.specs.declared.fault.Why.{Why}
+use Rattle.policy_fault.specs.declared.fault.Why.TheVariants.{BadName}
 use Rattle.policy_core.specs.Names.{is_host_name}
 use Rattle.policy_core.specs.Mx.{are_hosts_named}
 use Rattle.mx_table.specs.MxText.{row, row_of, row_of_words, words_of, is_comment, name_of, after_line, rows_from, LineFault, gives, Joins}
-use Rattle.mx_table.proofs.JoinLemmas.{given, both_true}
+use Rattle.mx_table.proofs.MergeLemmas.{given, both_true}
 use Rattle.mx_table.proofs.LawLemmas.{first_true, itself}
 
 abbrev is_named : MxRow → Bool

@@ -5,12 +5,12 @@ use Rattle.std.specs.Str.{is_utf8, str_to_ascii_lowercase}
 use Rattle.kumo_base.specs.Lines.{numbered_lines}
 use Rattle.policy_core.specs.Names.{is_host_name}
 use Rattle.policy_core.specs.declared.mx.MxRow.{MxRow}
-use Rattle.policy_core.specs.declared.fault.Why.{Why}
-use Rattle.policy_core.specs.declared.fault.Why.TheVariants.{NotText, NoHost, BadName}
-use Rattle.policy_core.specs.declared.fault.PolicyFile.TheVariants as file
-use Rattle.policy_core.specs.declared.fault.PolicyFault.{PolicyFault}
-use Rattle.policy_core.specs.declared.fault.PolicyFault.TheVariants as policy_fault
-use Rattle.policy_core.specs.declared.fault.PolicyPlace.{PolicyPlace}
+use Rattle.policy_fault.specs.declared.fault.Why.{Why}
+use Rattle.policy_fault.specs.declared.fault.Why.TheVariants.{NotText, NoHost, BadName}
+use Rattle.policy_fault.specs.declared.fault.PolicyFile.TheVariants as file
+use Rattle.policy_fault.specs.declared.fault.PolicyFault.{PolicyFault}
+use Rattle.policy_fault.specs.declared.fault.PolicyFault.TheVariants as policy_fault
+use Rattle.policy_fault.specs.declared.fault.PolicyPlace.{PolicyPlace}
 
 -- words are separated by blanks and tabs
 abbrev pub is_space : ℕ → Bool

@@ -1,3 +1,3 @@
 -- What private functions and proofs cite. No public clause does.
 pub mod Causes
-pub mod Joined
+pub mod Merged

@@ -5,7 +5,7 @@ ghost use Rattle.mx_table.specs.inside.Causes.{IsRowFault};
 
 use itoa::Buffer;
 use kumo_base::{Memory, Text};
-use policy_core::{PolicyFault, PolicyFile, PolicyPlace, Why};
+use policy_fault::{PolicyFault, PolicyFile, PolicyPlace, Why};
 use std::alloc::Global;
 
 /// Why a line gives no row.

@@ -29,7 +29,8 @@ mod table;
 use crate::fault::RowFault;
 use crate::row::Row;
 use kumo_base::{Lines, Memory};
-use policy_core::{MxTable, PolicyFault, Why};
+use policy_core::MxTable;
+use policy_fault::{PolicyFault, Why};
 use std::alloc::Global;
 
 /// The table that a text is: for each domain of its lines the hosts that they give it.

@@ -13,7 +13,8 @@ use crate::fault::RowFault;
 use crate::push;
 use crate::row::Row;
 use kumo_base::Memory;
-use policy_core::{Why, is_host_name};
+use policy_core::is_host_name;
+use policy_fault::Why;
 use std::alloc::Global;
 
 /// The row that a line is. A comment, and a line without words, is none.

@@ -1,10 +1,10 @@
-//! Rows to a table: in order, those of one domain joined.
+//! Rows to a table: in order, those of one domain merged.
 ghost use Rattle.std.specs.Prelude.{◌≡◌, IfOk, IsTrue, true};
 ghost use Rattle.std.specs.List.{list_all};
 ghost use Rattle.std.specs.List.Sorted.{IsPermutation, IsSortedBy};
 ghost use Rattle.policy_core.specs.Mx.{has_hosts};
 ghost use Rattle.mx_table.specs.MxText.{Joins};
-ghost use Rattle.mx_table.specs.inside.Joined.{by_domain, domains, joined};
+ghost use Rattle.mx_table.specs.inside.Merged.{by_domain, domains, merged_rows};
 
 use crate::row::Row;
 use kumo_base::{Items, Memory};
@@ -16,9 +16,9 @@ use std::mem;
 pub fn table_of(alloc: Global, rows: Vec<Row>) -> Result<MxTable, Memory>
     ensures { IfOk result (λ table. Joins table rows.items) }
 {
-    let joined = joined(alloc, in_order(rows))?;
+    let merged = merged_rows(alloc, in_order(rows))?;
     Ok(MxTable {
-        rows: Items::of(finished(alloc, joined)?),
+        rows: Items::of(finished(alloc, merged)?),
     })
 }
 
@@ -31,9 +31,9 @@ fn in_order(mut rows: Vec<Row>) -> Vec<Row>
     rows
 }
 
-/// Rows with neighbours of one domain joined.
-fn joined(alloc: Global, rows: Vec<Row>) -> Result<Vec<Row>, Memory>
-    ensures { IfOk result (λ done. done.items ≡ joined rows.items) }
+/// Rows with neighbours of one domain merged.
+fn merged_rows(alloc: Global, rows: Vec<Row>) -> Result<Vec<Row>, Memory>
+    ensures { IfOk result (λ done. done.items ≡ merged_rows rows.items) }
 {
     let mut done = Vec::new(alloc);
     let mut rest = rows.into_iter();

@@ -5,3 +5,4 @@ pub mod PoolLemmas
 pub mod ServedLemmas
 pub mod SiteLemmas
 pub mod RotationLemmas
+pub mod SameTexts

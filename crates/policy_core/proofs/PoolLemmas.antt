@@ -5,7 +5,7 @@ use Rattle.std.proofs.lemmas.List.{drop_more, drop_all}
 use Rattle.policy_core.specs.declared.sources.Sources.{Sources}
 use Rattle.policy_core.specs.declared.queues.Queues.{Queues}
 use Rattle.policy_core.specs.declared.pools.PoolCheck.{PoolCheck}
-use Rattle.policy_core.specs.Policy.{PlacedLayer, least_text, earlier_text, lacks_pool, places_of_unknown, placed_layers, unknown_pool}
+use Rattle.policy_core.specs.Policy.{PlacedLayer, least_text, earlier_text, lacks_pool, places_of_unknown, all_layers, unknown_pool}
 use Rattle.policy_core.specs.inside.PoolCheck.{with_layers}
 
 -- the first of some and then of others
@@ -70,6 +70,6 @@ end_of_items f xs i check whole past left =
     sym (with_none check) ∙ sym (ap (λ ys. with_layers check (map f ys)) (drop_all i xs past)) ∙ left
 
 -- the walk over all layers
-pub unknown_with : (sources : Bor Sources) (queues : Queues) → (with_layers (record { sources = sources; unknown = None }) (placed_layers queues)).unknown ≡ unknown_pool sources.now queues
+pub unknown_with : (sources : Bor Sources) (queues : Queues) → (with_layers (record { sources = sources; unknown = None }) (all_layers queues)).unknown ≡ unknown_pool sources.now queues
 unfolding with_layers unknown_pool
 unknown_with sources queues = refl

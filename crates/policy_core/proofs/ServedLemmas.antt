@@ -11,7 +11,8 @@ use Rattle.policy_core.specs.declared.queues.DomainQueues.{DomainQueues}
 use Rattle.policy_core.specs.declared.queues.Queues.{Queues}
 use Rattle.policy_core.specs.declared.sources.Sources.{Sources}
 use Rattle.policy_core.specs.Layers.{last_set, layer_named, queues_of_domain, queues_of_tenant, tenant_layer, domain_layer, domain_tenant_layer, campaign_layer, layers_of, settings_of}
-use Rattle.policy_core.specs.Policy.{PlacedLayer, below, placed, layers_of_tenant, layers_of_domain, placed_layers, has_pool, lacks_pool, has_base_pool, least_text, earlier_text, places_of_unknown, unknown_pool, IsServed}
+use Rattle.policy_fault.specs.TableNames.{joined}
+use Rattle.policy_core.specs.Policy.{PlacedLayer, layer_in_place, layers_of_tenant, layers_of_domain, all_layers, has_pool, lacks_pool, has_base_pool, least_text, earlier_text, places_of_unknown, unknown_pool, IsServed}
 use Rattle.policy_core.proofs.MxLemmas.{first_of_both, second_of_both}
 
 -- a fact of what is there
@@ -78,7 +79,7 @@ module _ (sources : Sources) where
   is_domain_served d = is_served d.base && list_all is_tenant_served d.tenants
 
   of_tenant : (place : List ℕ) (t : TenantQueues) → list_all is_placed_served (layers_of_tenant place t) ≡ is_tenant_served t
-  of_tenant place t = ap (λ b. is_served t.base && b) (all_map is_placed_served (placed (below place t.tenant)) t.campaigns)
+  of_tenant place t = ap (λ b. is_served t.base && b) (all_map is_placed_served (layer_in_place (joined place t.tenant)) t.campaigns)
 
   of_tenants : (place : List ℕ) (ts : List TenantQueues) → list_all is_placed_served (flat_map (layers_of_tenant place) ts) ≡ list_all is_tenant_served ts
   of_tenants place [] = refl
@@ -87,7 +88,7 @@ module _ (sources : Sources) where
       ∙ rw (of_tenant place t, of_tenants place ts) refl
 
   of_domain : (d : DomainQueues) → list_all is_placed_served (layers_of_domain d) ≡ is_domain_served d
-  of_domain d = ap (λ b. is_served d.base && b) (of_tenants (below (codes "queue") d.domain) d.tenants)
+  of_domain d = ap (λ b. is_served d.base && b) (of_tenants (joined (codes "queue") d.domain) d.tenants)
 
   of_domains : (ds : List DomainQueues) → list_all is_placed_served (flat_map layers_of_domain ds) ≡ list_all is_domain_served ds
   of_domains [] = refl
@@ -100,13 +101,13 @@ module _ (sources : Sources) where
     tenants : are_named_served queues.tenants ≡ true
     domains : list_all is_domain_served queues.domains ≡ true
 
-  parts_served : (queues : Queues) → list_all is_placed_served (placed_layers queues) ≡ true → AllServed queues
+  parts_served : (queues : Queues) → list_all is_placed_served (all_layers queues) ≡ true → AllServed queues
   parts_served queues all =
       let rest = second_of_both (is_served queues.base) _ all in
-      let split = sym (all_append is_placed_served (map (placed (codes "tenant")) queues.tenants) (flat_map layers_of_domain queues.domains)) ∙ rest in
+      let split = sym (all_append is_placed_served (map (layer_in_place (codes "tenant")) queues.tenants) (flat_map layers_of_domain queues.domains)) ∙ rest in
       record {
         base = first_of_both (is_served queues.base) _ all;
-        tenants = sym (all_map is_placed_served (placed (codes "tenant")) queues.tenants) ∙ first_of_both _ _ split;
+        tenants = sym (all_map is_placed_served (layer_in_place (codes "tenant")) queues.tenants) ∙ first_of_both _ _ split;
         domains = sym (of_domains queues.domains) ∙ second_of_both _ _ split;
       }
 
@@ -201,5 +202,5 @@ module _ (sources : Sources) where
   pub served : (queues : Queues) → unknown_pool sources queues ≡ None → IsTrue (has_base_pool sources queues) → IsServed sources queues
   unfolding unknown_pool has_base_pool IsServed settings_of
   served queues none has name =
-      let all = parts_served queues (all_served (placed_layers queues) none) in
+      let all = parts_served queues (all_served (all_layers queues) none) in
       with_default UNSPECIFIED.now queues.base.pool _ has (last_is_there (layers_of queues name) (layers_served queues all name))

@@ -6,7 +6,7 @@ use Rattle.std.proofs.lemmas.Slice.Eq.{bytes_eq-Decides}
 use Rattle.policy_core.specs.declared.site.Site.{Site}
 use Rattle.policy_core.specs.Mx.{hosts_in}
 use Rattle.policy_core.specs.Policy.{Policy}
-use Rattle.policy_core.specs.Site.{shape_of, rollup_of, site_of, are_same_texts, is_same_site, is_at_site, own_domain, domains_of}
+use Rattle.policy_core.specs.Site.{domain_shape, rollup_of, site_of, are_same_texts, is_same_site, is_at_site, own_domain, domains_of}
 
 same_text : (text : List ℕ) → bytes_eq text text ≡ true
 same_text text = (bytes_eq-Decides text text).1 refl
@@ -62,7 +62,7 @@ of_its_shape policy domain e =
     any_right (bytes_eq domain) (filter here (map (λ row. row.domain) policy.mx)) _
     (any_left (bytes_eq domain) (filter here (map (λ shape. shape.domain) policy.shaping.domains)) _ (among_filtered here domain _ (at_its_site policy domain) e))
 
-own_name : (policy : Policy) (domain : List ℕ) → hosts_in policy.mx domain ≡ None → rollup_of (shape_of policy.shaping domain) ≡ true
+own_name : (policy : Policy) (domain : List ℕ) → hosts_in policy.mx domain ≡ None → rollup_of (domain_shape policy.shaping domain) ≡ true
     → (site_of policy domain).name ≡ domain
 unfolding site_of
 own_name policy domain none shared = rw (none, shared) (append-nil domain)
@@ -74,7 +74,7 @@ owned policy site domain e none here =
     let there : is_at_site policy site site.name ≡ true = subst (λ name. is_at_site policy site name ≡ true) (sym e) here in
     rw (no_row, there) (ap (λ name. name ∷ []) e)
 
-pub of_itself : (policy : Policy) (domain : List ℕ) → hosts_in policy.mx domain ≡ None → rollup_of (shape_of policy.shaping domain) ≡ true
+pub of_itself : (policy : Policy) (domain : List ℕ) → hosts_in policy.mx domain ≡ None → rollup_of (domain_shape policy.shaping domain) ≡ true
     → list_any (bytes_eq domain) (domains_of policy (site_of policy domain)) ≡ true
 of_itself policy domain none shared =
     let site = site_of policy domain in

@@ -11,5 +11,4 @@ pub mod Rotation
 pub mod Delays
 pub mod LiveOrders
 pub mod Automation
-pub mod Words
 pub mod inside

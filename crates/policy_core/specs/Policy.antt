@@ -12,11 +12,12 @@ use Rattle.policy_core.specs.declared.queues.Queues.{Queues}
 use Rattle.policy_core.specs.declared.sources.Sources.{Sources}
 use Rattle.policy_core.specs.declared.shaping.Shaping.{Shaping}
 use Rattle.policy_core.specs.declared.mx.MxRow.{MxRow}
-use Rattle.policy_core.specs.declared.fault.PolicyFault.{PolicyFault}
-use Rattle.policy_core.specs.declared.fault.PolicyFault.TheVariants as policy_fault
-use Rattle.policy_core.specs.declared.fault.PolicyFile.TheVariants as file
-use Rattle.policy_core.specs.declared.fault.PolicyPlace.{PolicyPlace}
-use Rattle.policy_core.specs.declared.fault.Why.TheVariants.{UnknownPool}
+use Rattle.policy_fault.specs.declared.fault.PolicyFault.{PolicyFault}
+use Rattle.policy_fault.specs.declared.fault.PolicyFault.TheVariants as policy_fault
+use Rattle.policy_fault.specs.declared.fault.PolicyFile.TheVariants as file
+use Rattle.policy_fault.specs.declared.fault.PolicyPlace.{PolicyPlace}
+use Rattle.policy_fault.specs.declared.fault.Why.TheVariants.{UnknownPool}
+use Rattle.policy_fault.specs.TableNames.{joined}
 use Rattle.policy_core.specs.Layers.{settings_of}
 use Rattle.policy_core.specs.Names.{is_source_name}
 use Rattle.policy_core.specs.Mx.{comes_before, are_hosts_named}
@@ -72,26 +73,23 @@ pub record PlacedLayer : Type 0 where
   pub place : List ℕ
   pub layer : Layer
 
-abbrev pub below : List ℕ → List ℕ → List ℕ
-below place name = place ++ 46 ∷ name
-
-abbrev pub placed : List ℕ → NamedLayer → PlacedLayer
-placed place named = record { place = below place named.name; layer = named.layer }
+abbrev pub layer_in_place : List ℕ → NamedLayer → PlacedLayer
+layer_in_place place named = record { place = joined place named.name; layer = named.layer }
 
 abbrev pub layers_of_tenant : List ℕ → TenantQueues → List PlacedLayer
 layers_of_tenant place t =
-    record { place = below place t.tenant; layer = t.base } ∷ map (placed (below place t.tenant)) t.campaigns
+    record { place = joined place t.tenant; layer = t.base } ∷ map (layer_in_place (joined place t.tenant)) t.campaigns
 
 abbrev pub layers_of_domain : DomainQueues → List PlacedLayer
 layers_of_domain d =
-    let place = below (codes "queue") d.domain in
+    let place = joined (codes "queue") d.domain in
     record { place = place; layer = d.base } ∷ flat_map (layers_of_tenant place) d.tenants
 
 -- all layers: for all queues, for tenants, and for domains with all within
-abbrev pub placed_layers : Queues → List PlacedLayer
-placed_layers queues =
+abbrev pub all_layers : Queues → List PlacedLayer
+all_layers queues =
     record { place = codes "queue.default"; layer = queues.base }
-    ∷ (map (placed (codes "tenant")) queues.tenants ++ flat_map layers_of_domain queues.domains)
+    ∷ (map (layer_in_place (codes "tenant")) queues.tenants ++ flat_map layers_of_domain queues.domains)
 
 -- a layer that names a pool that is not there
 abbrev pub lacks_pool : Sources → Option (List ℕ) → Bool
@@ -113,7 +111,7 @@ places_of_unknown sources layers = map (λ l. l.place) (filter (λ l. lacks_pool
 
 -- the first such table by name
 unfoldable pub unknown_pool : Sources → Queues → Option (List ℕ)
-unknown_pool sources queues = least_text None (places_of_unknown sources (placed_layers queues))
+unknown_pool sources queues = least_text None (places_of_unknown sources (all_layers queues))
 
 -- where a pool that is not there is refused, by the name of the table
 abbrev pub unknown_pool_at : List ℕ → PolicyPlace

@@ -21,8 +21,8 @@ abbrev pub hosts_of : Policy → List ℕ → List (List ℕ)
 hosts_of policy domain = unwrap_or (hosts_in policy.mx domain) (domain ∷ [])
 
 -- what is said for a domain; of equal names the first counts
-abbrev pub shape_of : Shaping → List ℕ → Option DomainShape
-shape_of shaping domain = find (λ d. bytes_eq d.domain domain) shaping.domains
+abbrev pub domain_shape : Shaping → List ℕ → Option DomainShape
+domain_shape shaping domain = find (λ d. bytes_eq d.domain domain) shaping.domains
 
 abbrev pub rollup_of : Option DomainShape → Bool
 rollup_of None = true
@@ -35,7 +35,7 @@ site_name false domain hosts = domain ++ 61 ∷ joined_by_bars hosts
 -- the site of a domain: it is shared by hosts, unless the domain's table says `mx_rollup = false`
 unfoldable pub site_of : Policy → List ℕ → Site
 site_of policy domain = record {
-  name = site_name (rollup_of (shape_of policy.shaping domain)) domain (hosts_of policy domain);
+  name = site_name (rollup_of (domain_shape policy.shaping domain)) domain (hosts_of policy domain);
   hosts = hosts_of policy domain;
 }
 

@@ -1,6 +1,5 @@
 //! The plain data of a policy: the sources and pools that mail leaves by, the layered settings of queues, the shaping of
-//! paths, the mail exchangers of domains, the orders of an administrator, all of these assembled, and why a policy text
-//! is refused.
+//! paths, the mail exchangers of domains, the orders of an administrator, and all of these assembled.
 //!
 //! The readers of policy texts make these values, and the core decides by them. What they mean stands in `specs/`: the
 //! layers of a queue's name and of a path with what they come to, the site of a domain, and the weighted rotation of a
@@ -8,7 +7,6 @@
 #![tactic(auto)]
 
 mod copying;
-mod fault;
 pub mod laws;
 mod mx;
 mod names;
@@ -24,7 +22,6 @@ mod shaping;
 mod site;
 mod sources;
 
-pub use fault::{Ignored, PolicyFault, PolicyFile, PolicyPlace, Why};
 pub use mx::{MxRow, MxTable};
 pub use names::{POLICY_NAME_LIMIT, is_host_name, is_source_name};
 pub use option_name::{OPTION_NAMES, OptionName};
@@ -40,5 +37,5 @@ pub use settings::{
     DEFAULT_EHLO, DEFAULT_MAX_AGE, DEFAULT_RETRY_INTERVAL, Layer, Settings, UNSPECIFIED,
 };
 pub use shaping::{DomainShape, Match, Provider, ShapeTable, Shaping, SourceTable};
-pub use site::{PathBase, Site};
+pub use site::{PathBase, Site, are_same_texts};
 pub use sources::{Entrant, Pool, Source, Sources};

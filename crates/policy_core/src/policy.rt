@@ -2,17 +2,17 @@
 //!
 //! The readers of policy texts make the parts, and `Policy::assemble` puts them together. Nothing of a policy changes
 //! while mail is sent by it, so what its type keeps is known wherever there is one.
-ghost use Rattle.std.specs.Prelude.{◌≡◌, IsTrue, IfOk, IfErr, None};
+ghost use Rattle.std.specs.Prelude.{◌≡◌, IsTrue, IfOk, IfErr, OnOk, None};
 ghost use Rattle.policy_core.specs.Policy.{are_stops, has_base_pool, are_entrants_sources, are_sources_named, unknown_pool, IsUnknownPool};
 ghost use Rattle.policy_core.specs.Mx.{are_hosts_named};
 
-use crate::fault::{PolicyFault, PolicyFile, PolicyPlace, Why};
 use crate::mx::MxTable;
 use crate::pools::unknown_pool;
 use crate::queues::Queues;
 use crate::shaping::Shaping;
 use crate::sources::Sources;
 use kumo_base::{Items, Text};
+use policy_fault::{PolicyFault, PolicyFile, PolicyPlace, Why};
 use std::alloc::Global;
 use std::marker::Model;
 
@@ -65,14 +65,7 @@ impl Policy {
         ensures known { IfOk result (λ policy. unknown_pool sources queues ≡ None) }
         ensures err { IfErr result (λ fault. IsUnknownPool fault (unknown_pool sources queues)) }
     {
-        if let Some(table) = unknown_pool(alloc, &sources, &queues)? {
-            return Err(PolicyFault::At(PolicyPlace {
-                file: PolicyFile::Queues,
-                table,
-                key: Text::of(alloc, "egress_pool")?,
-                why: Why::UnknownPool,
-            }));
-        }
+        check_pools(alloc, &sources, &queues)?;
         Ok(Policy {
             sources,
             queues,
@@ -81,4 +74,20 @@ impl Policy {
             stops: Items::of(stops),
         })
     }
+}
+
+/// Refuses queues of which a layer names a pool that is not there.
+fn check_pools(alloc: Global, sources: &Sources, queues: &Queues) -> Result<(), PolicyFault>
+    ensures ok { OnOk result (unknown_pool sources.now queues.now ≡ None) }
+    ensures err { IfErr result (λ fault. IsUnknownPool fault (unknown_pool sources.now queues.now)) }
+{
+    let Some(table) = unknown_pool(alloc, sources, queues)? else {
+        return Ok(());
+    };
+    Err(PolicyFault::At(PolicyPlace {
+        file: PolicyFile::Queues,
+        table,
+        key: Text::of(alloc, "egress_pool")?,
+        why: Why::UnknownPool,
+    }))
 }

@@ -4,13 +4,15 @@
 //! name a pool which is not there, the first in byte order. The one refusal is `Memory`.
 ghost use Rattle.std.specs.Prelude.{◌≡◌, ◌∷◌, ℕ, List, [], Option, Some, map, codes, OnOk, IfOk};
 ghost use Rattle.std.specs.List.{flat_map};
-ghost use Rattle.policy_core.specs.Policy.{has_pool, lacks_pool, earlier_text, below, placed, layers_of_tenant, layers_of_domain, unknown_pool};
+ghost use Rattle.policy_fault.specs.TableNames.{joined};
+ghost use Rattle.policy_core.specs.Policy.{has_pool, lacks_pool, earlier_text, layer_in_place, layers_of_tenant, layers_of_domain, unknown_pool};
 ghost use Rattle.policy_core.specs.inside.PoolCheck.{name_above, layer_at, with_layers};
 
 use crate::queues::{DomainQueues, NamedLayer, Queues, TenantQueues};
 use crate::settings::Layer;
 use crate::sources::Sources;
 use kumo_base::{Memory, Text};
+use policy_fault::joined;
 use std::alloc::Global;
 
 /// The table within which the table of a layer stands.
@@ -55,10 +57,10 @@ pub(crate) fn unknown_pool(
 impl<'q> Above<'q> {
     /// The name of a table that stands there.
     fn name_of(self, alloc: Global, table: &str) -> Result<Text, Memory>
-        ensures { IfOk result (λ name. name ≡ below (name_above self.entry) table.now) }
+        ensures { IfOk result (λ name. name ≡ joined (name_above self.entry) table.now) }
     {
         let above = self.name(alloc)?;
-        below(alloc, above.as_str(), table)
+        joined(alloc, above.as_str(), table)
     }
 
     /// Its own name.
@@ -68,23 +70,13 @@ impl<'q> Above<'q> {
         match self {
             Above::Tenants => Text::of(alloc, "tenant"),
             Above::Queues => Text::of(alloc, "queue"),
-            Above::Domain(domain) => below(alloc, "queue", domain),
+            Above::Domain(domain) => joined(alloc, "queue", domain),
             Above::Tenant { domain, tenant } => {
-                let above = below(alloc, "queue", domain)?;
-                below(alloc, above.as_str(), tenant)
+                let above = joined(alloc, "queue", domain)?;
+                joined(alloc, above.as_str(), tenant)
             }
         }
     }
-}
-
-/// The name of a table within another.
-fn below(alloc: Global, above: &str, table: &str) -> Result<Text, Memory>
-    ensures { IfOk result (λ name. name ≡ below above.now table.now) }
-{
-    let mut name = Text::of(alloc, above)?;
-    name.push_str(".")?;
-    name.push_str(table)?;
-    Ok(name)
 }
 
 impl<'s> PoolCheck<'s> {
@@ -112,7 +104,7 @@ impl<'s> PoolCheck<'s> {
         above: Above,
         layers: &[NamedLayer],
     ) -> Result<(), Memory>
-        ensures { OnOk result (self.new ≡ with_layers self.old (map (placed (name_above above.entry)) layers.now)) }
+        ensures { OnOk result (self.new ≡ with_layers self.old (map (layer_in_place (name_above above.entry)) layers.now)) }
     {
         for layer in layers {
             self.add_layer(alloc, above, layer.name.as_str(), &layer.layer)?;
@@ -148,7 +140,7 @@ impl<'s> PoolCheck<'s> {
         tenants: &[TenantQueues],
     ) -> Result<(), Memory>
         ensures { OnOk result (self.new ≡ with_layers self.old
-            (flat_map (layers_of_tenant (below (codes "queue") domain.now)) tenants.now)) }
+            (flat_map (layers_of_tenant (joined (codes "queue") domain.now)) tenants.now)) }
     {
         for tenant in tenants {
             self.add_tenant(alloc, domain, tenant)?;
@@ -163,7 +155,8 @@ impl<'s> PoolCheck<'s> {
         domain: &str,
         queues: &TenantQueues,
     ) -> Result<(), Memory>
-        ensures { OnOk result (self.new ≡ with_layers self.old (layers_of_tenant (below (codes "queue") domain.now) queues.now)) }
+        ensures { OnOk result (self.new ≡ with_layers self.old
+            (layers_of_tenant (joined (codes "queue") domain.now) queues.now)) }
     {
         let tenant = queues.tenant.as_str();
         self.add_layer(alloc, Above::Domain(domain), tenant, &queues.base)?;

@@ -1,5 +1,6 @@
 //! Sites, and what the shaping tables of a path come to.
 ghost use Rattle.std.specs.Prelude.{◌≡◌, IfOk};
+ghost use Rattle.policy_core.specs.Site.{are_same_texts, is_same_site};
 
 use crate::copying::copy_items;
 use crate::options::Options;
@@ -33,6 +34,29 @@ impl Site {
             hosts: copy_items(alloc, &self.hosts)?,
         })
     }
+
+    /// Whether two sites have the same name and the same hosts.
+    pub fn is_same(&self, other: &Site) -> bool
+        ensures { result ≡ is_same_site self.now other.now }
+    {
+        self.name.is_same(other.name.as_str())
+            && are_same_texts(self.hosts.as_slice(), other.hosts.as_slice())
+    }
+}
+
+/// Whether two lists have the same texts in the same order.
+pub fn are_same_texts(texts: &[Text], others: &[Text]) -> bool
+    ensures { result ≡ are_same_texts texts.now others.now }
+{
+    if texts.len() != others.len() {
+        return false;
+    }
+    for place in 0..texts.len() {
+        if !texts[place].is_same(others[place].as_str()) {
+            return false;
+        }
+    }
+    true
 }
 
 impl PathBase {

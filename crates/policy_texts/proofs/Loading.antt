@@ -5,10 +5,10 @@ use Rattle.std.proofs.lemmas.Option.{same_Some}
 use Rattle.kumo_base.specs.Limits.{latest_moment}
 use Rattle.policy_core.specs.Limits.{unspecified}
 use Rattle.policy_core.specs.Policy.{Policy, are_stops, has_pool, has_base_pool, unknown_pool, unknown_pool_at, IsUnknownPool}
-use Rattle.policy_core.specs.declared.fault.Ignored.{Ignored}
-use Rattle.policy_core.specs.declared.fault.PolicyFault.{PolicyFault}
-use Rattle.policy_core.specs.declared.fault.PolicyFault.TheVariants as fault
-use Rattle.policy_core.specs.declared.fault.PolicyPlace.{PolicyPlace}
+use Rattle.policy_fault.specs.declared.fault.Ignored.{Ignored}
+use Rattle.policy_fault.specs.declared.fault.PolicyFault.{PolicyFault}
+use Rattle.policy_fault.specs.declared.fault.PolicyFault.TheVariants as fault
+use Rattle.policy_fault.specs.declared.fault.PolicyPlace.{PolicyPlace}
 use Rattle.policy_core.specs.declared.mx.MxRow.{MxRow}
 use Rattle.policy_core.specs.declared.queues.Queues.{Queues}
 use Rattle.policy_core.specs.declared.sources.Sources.{Sources}

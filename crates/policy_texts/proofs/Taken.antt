@@ -1,7 +1,7 @@
 -- What the text of a name gives, where its bytes are read up to one piece past the limit.
 use Rattle.std.proofs.Common.{◌≡◌, ℕ, List, Option, Result, Ok, Err, IfOk, IfErr, IfSome}
 use Rattle.kumo_base.specs.Causes.{Rose}
-use Rattle.policy_core.specs.declared.fault.PolicyPlace.{PolicyPlace}
+use Rattle.policy_fault.specs.declared.fault.PolicyPlace.{PolicyPlace}
 use Rattle.policy_core.specs.declared.mx.MxRow.{MxRow}
 use Rattle.mx_table.specs.MxText.{Joins}
 use Rattle.kumo_outside.specs.Reading.{IsReadUpTo}

@@ -3,12 +3,12 @@
 use Rattle.std.specs.Prelude.{◌≡◌, ℕ, List, [], ◌∷◌, ◌++◌, Option, Some, None, Result, Ok, Err, ⊤}
 use Rattle.kumo_base.specs.Causes.{Rose}
 use Rattle.kumo_base.specs.Limits.{latest_moment}
-use Rattle.kumo_outside.specs.Told.{TextsSeen}
+use Rattle.kumo_outside.specs.Content.{TextsSeen}
 use Rattle.kumo_outside.specs.Search.{SearchSeen}
 use Rattle.policy_core.specs.Policy.{Policy, unknown_pool, unknown_pool_at}
-use Rattle.policy_core.specs.declared.fault.Ignored.{Ignored}
-use Rattle.policy_core.specs.declared.fault.PolicyFault.{PolicyFault}
-use Rattle.policy_core.specs.declared.fault.PolicyFault.TheVariants as fault
+use Rattle.policy_fault.specs.declared.fault.Ignored.{Ignored}
+use Rattle.policy_fault.specs.declared.fault.PolicyFault.{PolicyFault}
+use Rattle.policy_fault.specs.declared.fault.PolicyFault.TheVariants as fault
 use Rattle.policy_core.specs.declared.mx.MxRow.{MxRow}
 use Rattle.policy_core.specs.declared.queues.Queues.{Queues}
 use Rattle.policy_core.specs.declared.shaping.Shaping.{Shaping}

@@ -3,8 +3,8 @@ use Rattle.std.specs.Prelude.{◌≡◌, ℕ, List, ◌∷◌, ◌++◌, [], map
 use Rattle.std.specs.Ordering.{nat_cmp, is_lt}
 use Rattle.std.specs.Cmp.Lexicographic.{slice_cmp}
 use Rattle.std.specs.List.Sorted.{IsPermutation, IsSortedBy}
-use Rattle.policy_core.specs.Words.{name_of_file}
-use Rattle.policy_core.specs.declared.fault.Ignored.{Ignored}
+use Rattle.policy_fault.specs.Words.{name_of_file}
+use Rattle.policy_fault.specs.declared.fault.Ignored.{Ignored}
 
 -- the line of a key without effect, without its line feed
 abbrev pub ignored_line : Ignored → List ℕ

@@ -1,8 +1,8 @@
 -- What each policy text comes to: it is too long, it is refused at a place, or it gives what its definition says.
 use Rattle.std.specs.Prelude.{◌≡◌, ℕ, nat_lt, List, [], length, Option, Some, None, Result, Ok, Err, IfSome, if◌then◌else◌}
 use Rattle.kumo_outside.specs.Limits.{text_limit}
-use Rattle.policy_core.specs.declared.fault.PolicyFile.TheVariants as file
-use Rattle.policy_core.specs.declared.fault.PolicyPlace.{PolicyPlace}
+use Rattle.policy_fault.specs.declared.fault.PolicyFile.TheVariants as file
+use Rattle.policy_fault.specs.declared.fault.PolicyPlace.{PolicyPlace}
 use Rattle.policy_core.specs.declared.mx.MxRow.{MxRow}
 use Rattle.policy_toml.specs.Reports.{reported}
 use Rattle.sources_policy.specs.SourcesFile.{SourcesFile, sources_file}

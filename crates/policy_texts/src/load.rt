@@ -16,7 +16,8 @@ use crate::stages::{take_mx, take_queues, take_shaping, take_sources};
 use command_words::PolicyNames;
 use kumo_base::LAST_MOMENT;
 use kumo_outside::{Search, Texts};
-use policy_core::{Ignored, MxTable, Policy, PolicyFault, PolicyPlace, Queues, Shaping, Sources};
+use policy_core::{MxTable, Policy, Queues, Shaping, Sources};
+use policy_fault::{Ignored, PolicyFault, PolicyPlace};
 use std::alloc::{AllocError, AllocFailed, Global};
 
 /// A policy, and the keys of its texts that have no effect: those of sources, then of queues, then of shaping.
@@ -91,7 +92,8 @@ pub fn load_policy<T: Texts, S: Search>(
     names: &PolicyNames<'_>,
     search: &mut S,
 ) -> Result<PolicyTexts, LoadFault>
-    ensures ok { IfOk result (λ loaded. Loads (T.seen texts.old).told (seen_names names.now) loaded.policy loaded.ignored.items) }
+    ensures ok { IfOk result (λ loaded. Loads (T.seen texts.old).told (seen_names names.now)
+        loaded.policy loaded.ignored.items) }
     ensures err { IfErr result (λ fault. HasCauseIn (Stops (T.seen texts.old).told (seen_names names.now))
         (counts_of (T.seen texts.old) (T.seen texts.new) (S.seen search.old) (S.seen search.new)) fault) }
     ensures told { (T.seen texts.new).told ≡ (T.seen texts.old).told }

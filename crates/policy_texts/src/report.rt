@@ -3,7 +3,7 @@ ghost use Rattle.std.specs.Prelude.{◌≡◌, IfOk, map, flat_map, string_bytes
 ghost use Rattle.policy_texts.specs.Report.{IsCheckReport, ignored_line, ended_line};
 
 use kumo_base::Memory;
-use policy_core::Ignored;
+use policy_fault::Ignored;
 use std::alloc::Global;
 
 /// The report on keys without effect: a line for each, in byte order of the lines, and then `ok`.

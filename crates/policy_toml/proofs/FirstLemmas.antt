@@ -6,7 +6,7 @@ use Rattle.std.specs.Cmp.{IsTotalOrder}
 use Rattle.std.specs.Ordering.{is_lt, is_gt, ordering_reverse}
 use Rattle.std.proofs.lemmas.Cmp.{upto, tied_itself, then_total, on_total, nat_cmp_total, nat_list_cmp_total}
 use Rattle.std.proofs.lemmas.Option.{none-some, same_Some}
-use Rattle.policy_core.specs.contracts.fault.WhyOrd.TheImpl.Laws.{total-law}
+use Rattle.policy_fault.specs.contracts.fault.WhyOrd.TheImpl.Laws.{total-law}
 use Rattle.policy_toml.specs.declared.fault.Fault.{Fault}
 use Rattle.policy_toml.specs.Places.{fault_cmp, earlier, first_of}
 

@@ -2,9 +2,10 @@
 use Rattle.std.specs.Prelude.{ℕ, List, [], ◌∷◌, ◌++◌, Bool, false, ◌&&◌, ◌||◌, bytes_eq, if◌then◌else◌}
 use Rattle.std.specs.Str.{str_to_ascii_lowercase}
 use Rattle.toml.specs.Data.{Data, Members, no_members, member}
-use Rattle.policy_core.specs.declared.fault.Why.TheVariants.{Twice}
+use Rattle.policy_fault.specs.declared.fault.Why.TheVariants.{Twice}
 use Rattle.policy_toml.specs.declared.fault.Fault.{Fault}
-use Rattle.policy_toml.specs.Places.{fault, joined, whole_table}
+use Rattle.policy_fault.specs.TableNames.{joined}
+use Rattle.policy_toml.specs.Places.{fault, whole_table}
 
 -- names of domains that were met, by whether a name is among them
 abbrev pub none_met : List ℕ → Bool

@@ -5,15 +5,11 @@ use Rattle.std.specs.Prelude.{ℕ, ◌==◌, List, [], ◌∷◌, ◌++◌, leng
 use Rattle.std.specs.declared.cmp.Ordering.{Ordering}
 use Rattle.std.specs.Ordering.{nat_cmp, ordering_then, is_lt}
 use Rattle.std.specs.Cmp.Lexicographic.{slice_cmp}
-use Rattle.policy_core.specs.declared.fault.PolicyFile.{PolicyFile}
-use Rattle.policy_core.specs.declared.fault.Ignored.{Ignored}
-use Rattle.policy_core.specs.declared.fault.Why.{Why}
-use Rattle.policy_core.specs.contracts.fault.WhyOrd.TheImpl.{cmp-value}
+use Rattle.policy_fault.specs.declared.fault.PolicyFile.{PolicyFile}
+use Rattle.policy_fault.specs.declared.fault.Ignored.{Ignored}
+use Rattle.policy_fault.specs.declared.fault.Why.{Why}
+use Rattle.policy_fault.specs.contracts.fault.WhyOrd.TheImpl.{cmp-value}
 use Rattle.policy_toml.specs.declared.fault.Fault.{Fault}
-
--- a table within a table, which is the empty text at the top level
-abbrev pub joined : List ℕ → List ℕ → List ℕ
-joined table key = if length table == 0 then key else table ++ 46 ∷ key
 
 -- a fault in a table of a list, and at an item of a value that is a list. Both are counted from 1; 0 says that there is none
 abbrev pub fault_in : List ℕ → ℕ → List ℕ → ℕ → Why → Fault
@@ -48,16 +44,16 @@ first_of best [] = best
 first_of best (f ∷ faults) = first_of (Some (earlier best f)) faults
 
 -- the name of a table where it is reported, which is `-` for the top level
-abbrev pub named : List ℕ → List ℕ
-named table = if length table == 0 then whole_table else table
+abbrev pub name_of_table : List ℕ → List ℕ
+name_of_table table = if length table == 0 then whole_table else table
 
 -- the name of a table in a list, with its number there
 abbrev pub numbered : List ℕ → ℕ → List ℕ
 numbered table number = table ++ 46 ∷ decimal number
 
-abbrev pub named_with : List ℕ → ℕ → List ℕ
-named_with table number = if number == 0 then named table else numbered table number
+abbrev pub name_in_report : List ℕ → ℕ → List ℕ
+name_in_report table number = if number == 0 then name_of_table table else numbered table number
 
 -- where a key without effect stands
 abbrev pub ignored_at : PolicyFile → List ℕ → List ℕ → Ignored
-ignored_at file table key = record { file = file; table = named table; key = key }
+ignored_at file table key = record { file = file; table = name_of_table table; key = key }

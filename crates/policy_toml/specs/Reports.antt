@@ -1,17 +1,17 @@
 -- What a reader of a policy file answers: what the document gives and its keys without effect, or the fault that is reported.
 use Rattle.std.specs.Prelude.{◌≡◌, List, [], Option, Some, None, Result, Ok, Err, ⊤}
 use Rattle.toml.specs.Data.{Members}
-use Rattle.policy_core.specs.declared.fault.PolicyFile.{PolicyFile}
-use Rattle.policy_core.specs.declared.fault.PolicyFault.{PolicyFault}
-use Rattle.policy_core.specs.declared.fault.PolicyFault.TheVariants as policy_fault
-use Rattle.policy_core.specs.declared.fault.PolicyPlace.{PolicyPlace}
-use Rattle.policy_core.specs.declared.fault.Why.TheVariants.{NotToml}
+use Rattle.policy_fault.specs.declared.fault.PolicyFile.{PolicyFile}
+use Rattle.policy_fault.specs.declared.fault.PolicyFault.{PolicyFault}
+use Rattle.policy_fault.specs.declared.fault.PolicyFault.TheVariants as policy_fault
+use Rattle.policy_fault.specs.declared.fault.PolicyPlace.{PolicyPlace}
+use Rattle.policy_fault.specs.declared.fault.Why.TheVariants.{NotToml}
 use Rattle.policy_toml.specs.declared.fault.Fault.{Fault}
-use Rattle.policy_toml.specs.Places.{fault, first_of, whole_table, named_with}
+use Rattle.policy_toml.specs.Places.{fault, first_of, whole_table, name_in_report}
 
 -- a fault as it is reported
 abbrev pub reported : PolicyFile → Fault → PolicyPlace
-reported file f = record { file = file; table = named_with f.table f.number; key = f.key; why = f.why }
+reported file f = record { file = file; table = name_in_report f.table f.number; key = f.key; why = f.why }
 
 abbrev pub IsReportedFault : PolicyFile → Fault → PolicyFault → Type 0
 IsReportedFault file f (policy_fault.At place) = place ≡ reported file f

@@ -6,8 +6,8 @@ use Rattle.kumo_base.specs.Duration.{duration_in}
 use Rattle.kumo_base.specs.Utf8.{utf8_in}
 use Rattle.kumo_base.specs.declared.duration.DurationFault.{DurationFault}
 use Rattle.kumo_base.specs.Duration.{longest}
-use Rattle.policy_core.specs.declared.fault.Why.{Why}
-use Rattle.policy_core.specs.declared.fault.Why.TheVariants.{BadType, BadDuration}
+use Rattle.policy_fault.specs.declared.fault.Why.{Why}
+use Rattle.policy_fault.specs.declared.fault.Why.TheVariants.{BadType, BadDuration}
 
 -- the table that bytes are, where they are TOML in UTF-8
 unfoldable pub document_in : List ℕ → Option Members

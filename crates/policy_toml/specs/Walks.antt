@@ -1,8 +1,8 @@
 -- Walks over the tables of a document.
 use Rattle.std.specs.Prelude.{ℕ, List, [], ◌∷◌, ◌++◌, Bool, Option, Some, None, Result, Ok, Err, is_some, option_and_then}
 use Rattle.toml.specs.Data.{Data, Members, no_members, member, as_table, get_member}
-use Rattle.policy_core.specs.declared.fault.Why.{Why}
-use Rattle.policy_core.specs.declared.fault.Why.TheVariants.{BadType}
+use Rattle.policy_fault.specs.declared.fault.Why.{Why}
+use Rattle.policy_fault.specs.declared.fault.Why.TheVariants.{BadType}
 use Rattle.policy_toml.specs.declared.fault.Fault.{Fault}
 use Rattle.policy_toml.specs.Places.{fault}
 

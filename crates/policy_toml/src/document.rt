@@ -6,8 +6,8 @@
 ghost use Rattle.std.specs.Prelude.{◌≡◌, [], IfOk, IfErr, Some, option_map};
 ghost use Rattle.toml.specs.Data.{get_member, as_table};
 ghost use Rattle.toml.specs.View.{table_view, view};
-ghost use Rattle.policy_core.specs.declared.fault.Why.TheVariants.{NotToml};
-ghost use Rattle.policy_toml.specs.Places.{joined, fault, whole_table};
+ghost use Rattle.policy_fault.specs.declared.fault.Why.TheVariants.{NotToml};
+ghost use Rattle.policy_toml.specs.Places.{fault, whole_table};
 ghost use Rattle.policy_toml.specs.Reports.{IsReportedFault, IsUnopened};
 ghost use Rattle.policy_toml.specs.Values.{document_in};
 ghost use Rattle.policy_toml.specs.Walks.{is_table, table_at};
@@ -15,7 +15,7 @@ ghost use Rattle.policy_toml.specs.inside.Unread.{IsUnread};
 
 use crate::fault::{Fault, WHOLE_TABLE};
 use kumo_base::{Memory, Text, utf8_in};
-use policy_core::{PolicyFault, PolicyFile, Why};
+use policy_fault::{PolicyFault, PolicyFile, Why};
 use std::alloc::Global;
 use toml::{Table, Value};
 
@@ -101,17 +101,4 @@ pub fn is_table(value: &Value) -> bool
     ensures { result ≡ is_table (view value.now) }
 {
     value.as_table().is_some()
-}
-
-/// The name of a table within another, by its keys joined by `.`; the top level has the empty name.
-pub fn joined(alloc: Global, place: &str, key: &str) -> Result<Text, Memory>
-    ensures { IfOk result (λ text. text ≡ joined place.now key.now) }
-{
-    if place.is_empty() {
-        return Text::of(alloc, key);
-    }
-    let mut text = Text::of(alloc, place)?;
-    text.push_str(".")?;
-    text.push_str(key)?;
-    Ok(text)
 }

@@ -5,7 +5,7 @@
 //! data, and else `reported` gives the fault the form that is printed. `Memory` leaves the kept fault as it was.
 ghost use Rattle.std.specs.Prelude.{◌≡◌, ◌∷◌, ◌==◌, ℕ, List, [], Option, Some, None, IfOk, OnOk, OnErr};
 ghost use Rattle.std.specs.Ordering.{is_lt};
-ghost use Rattle.policy_toml.specs.Places.{first_of, fault, fault_cmp, fault_in, named, named_with, numbered};
+ghost use Rattle.policy_toml.specs.Places.{first_of, fault, fault_cmp, fault_in, name_of_table, name_in_report, numbered};
 ghost use Rattle.policy_toml.specs.Reports.{IsReportedFault};
 ghost use Rattle.policy_toml.specs.Walks.{faults_unless_table};
 ghost use Rattle.toml.specs.Data.{get_member};
@@ -14,7 +14,7 @@ ghost use Rattle.toml.specs.View.{table_view};
 use crate::document::{entry, is_table};
 use itoa::Buffer;
 use kumo_base::{Memory, Text};
-use policy_core::{PolicyFault, PolicyFile, PolicyPlace, Why};
+use policy_fault::{PolicyFault, PolicyFile, PolicyPlace, Why};
 use std::alloc::Global;
 use std::marker::Model;
 use toml::Table;
@@ -139,7 +139,7 @@ impl Fault {
             why,
             ..
         } = self;
-        match named_with(alloc, table, number) {
+        match name_in_report(alloc, table, number) {
             Ok(table) => PolicyFault::At(PolicyPlace {
                 file,
                 table,
@@ -152,11 +152,11 @@ impl Fault {
 }
 
 /// The name of a table in a report.
-fn named_with(alloc: Global, table: Text, number: u64) -> Result<Text, Memory>
-    ensures { IfOk result (λ text. text ≡ named_with table number) }
+fn name_in_report(alloc: Global, table: Text, number: u64) -> Result<Text, Memory>
+    ensures { IfOk result (λ text. text ≡ name_in_report table number) }
 {
     if number == 0 {
-        named(alloc, table)
+        name_of_table(alloc, table)
     } else {
         numbered(alloc, table.as_str(), number)
     }
@@ -174,8 +174,8 @@ pub fn numbered(alloc: Global, table: &str, number: u64) -> Result<Text, Memory>
 }
 
 /// The name of a table that is in no list.
-fn named(alloc: Global, table: Text) -> Result<Text, Memory>
-    ensures { IfOk result (λ text. text ≡ named table) }
+fn name_of_table(alloc: Global, table: Text) -> Result<Text, Memory>
+    ensures { IfOk result (λ text. text ≡ name_of_table table) }
 {
     if table.as_str().is_empty() {
         Text::of(alloc, WHOLE_TABLE)

@@ -4,7 +4,7 @@ ghost use Rattle.policy_toml.specs.Places.{ignored_at};
 
 use crate::fault::WHOLE_TABLE;
 use kumo_base::{Memory, Text};
-use policy_core::{Ignored, PolicyFile};
+use policy_fault::{Ignored, PolicyFile};
 use std::alloc::Global;
 
 /// Adds a key to the list of those without effect. The table is named by its joined keys, the top level by the empty text.

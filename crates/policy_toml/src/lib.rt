@@ -13,8 +13,8 @@ pub mod laws;
 mod order;
 mod values;
 
-pub use document::{entry, is_table, joined, open_document, table_at};
-pub use domains::note_domain;
+pub use document::{entry, is_table, open_document, table_at};
+pub use domains::{DomainTables, note_twice};
 pub use fault::{Fault, FirstFault, WHOLE_TABLE, numbered};
 pub use ignored::note_ignored;
 pub use order::{Named, put_by_name};

@@ -4,7 +4,7 @@ ghost use Rattle.toml.specs.View.{view};
 ghost use Rattle.policy_toml.specs.Values.{text_in, duration_at};
 
 use kumo_base::{LONGEST_DURATION, duration_of};
-use policy_core::Why;
+use policy_fault::Why;
 use toml::Value;
 
 /// Seconds of the longest duration.
@@ -12,7 +12,8 @@ const LONGEST_SECONDS: i64 = 3_153_600_000;
 
 /// The text that a value is; `BadType` for another kind.
 pub fn text_at(value: &Value) -> Result<&str, Why>
-    ensures { MatchResult result (λ text. text_in (view value.now) ≡ Ok text.now) (λ why. text_in (view value.now) ≡ Err why) }
+    ensures { MatchResult result (λ text. text_in (view value.now) ≡ Ok text.now)
+        (λ why. text_in (view value.now) ≡ Err why) }
 {
     match value.as_str() {
         Some(text) => Ok(text),

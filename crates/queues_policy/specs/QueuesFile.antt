@@ -3,17 +3,18 @@ use Rattle.std.specs.Prelude.{ℕ, ◌==◌, List, [], ◌∷◌, ◌++◌, Bool
 use Rattle.std.specs.Str.{str_to_ascii_lowercase}
 use Rattle.queue_name.specs.Components.{is_domain_of_some_name, is_tenant_of_some_name, is_campaign_of_some_name}
 use Rattle.toml.specs.Data.{Data, Members, no_members, member, as_table, get_member}
-use Rattle.policy_core.specs.declared.fault.Why.{Why}
-use Rattle.policy_core.specs.declared.fault.Why.TheVariants.{BadType, BadName, Zero}
-use Rattle.policy_core.specs.declared.fault.PolicyFile.TheVariants as file
-use Rattle.policy_core.specs.declared.fault.Ignored.{Ignored}
+use Rattle.policy_fault.specs.declared.fault.Why.{Why}
+use Rattle.policy_fault.specs.declared.fault.Why.TheVariants.{BadType, BadName, Zero}
+use Rattle.policy_fault.specs.declared.fault.PolicyFile.TheVariants as file
+use Rattle.policy_fault.specs.declared.fault.Ignored.{Ignored}
 use Rattle.policy_core.specs.declared.settings.Layer.{Layer}
 use Rattle.policy_core.specs.declared.queues.NamedLayer.{NamedLayer}
 use Rattle.policy_core.specs.declared.queues.TenantQueues.{TenantQueues}
 use Rattle.policy_core.specs.declared.queues.DomainQueues.{DomainQueues}
 use Rattle.policy_core.specs.declared.queues.Queues.{Queues}
 use Rattle.policy_toml.specs.declared.fault.Fault.{Fault}
-use Rattle.policy_toml.specs.Places.{fault, joined, whole_table, ignored_at}
+use Rattle.policy_fault.specs.TableNames.{joined}
+use Rattle.policy_toml.specs.Places.{fault, whole_table, ignored_at}
 use Rattle.policy_toml.specs.Values.{text_in, duration_at, document_in}
 use Rattle.policy_toml.specs.Walks.{over_members, on_table, is_table, members_at, faults_unless_table, faults_of_value, value_at}
 use Rattle.policy_toml.specs.Domains.{none_met, faults_of_twice}

@@ -3,21 +3,18 @@
 //! `read_queues` calls `faults_in` before it makes any data. Each function goes over one part of the document (tenants,
 //! domains, the tenants of a domain, their campaigns) and hands every fault to the one `FirstFault`, which keeps the first by
 //! place. After `Memory` it may have seen some of them.
-ghost use Rattle.std.specs.Prelude.{◌≡◌, ℕ, List, [], Bool, IfOk, OnOk, None, codes};
-ghost use Rattle.std.specs.BTreeSet.{contains_text};
+ghost use Rattle.std.specs.Prelude.{◌≡◌, [], Bool, IfOk, OnOk, None, codes};
 ghost use Rattle.toml.specs.View.{table_view, view};
 ghost use Rattle.policy_toml.specs.Places.{first_of};
 ghost use Rattle.policy_toml.specs.Walks.{over_members};
-ghost use Rattle.policy_toml.specs.Domains.{none_met, met_with, faults_if_met, faults_of_twice};
-ghost use Rattle.queues_policy.specs.QueuesFile.{faults_in, faults_of_tenant, faults_in_tenant, faults_of_queue, faults_in_queue, faults_in_domain_queues, faults_at_domain_key, faults_in_tenant_queues, faults_at_tenant_key, faults_in_campaign, faults_at_plain_key, faults_of_setting, faults_of_name, is_domain_table};
+ghost use Rattle.queues_policy.specs.QueuesFile.{faults_in, faults_of_tenant, faults_in_tenant, faults_of_queue, faults_in_queue, faults_in_domain_queues, faults_at_domain_key, faults_in_tenant_queues, faults_at_tenant_key, faults_in_campaign, faults_at_plain_key, faults_of_setting, faults_of_name};
 
-use crate::values::{interval_at, is_default, is_domain_table, is_setting};
+use crate::values::{QueueTables, interval_at, is_default, is_setting};
 use kumo_base::Memory;
-use policy_core::Why;
-use policy_toml::{FirstFault, WHOLE_TABLE, duration_at, joined, note_domain, table_at, text_at};
+use policy_fault::{Why, joined};
+use policy_toml::{FirstFault, WHOLE_TABLE, duration_at, note_twice, table_at, text_at};
 use queue_name::{is_campaign_of_some_name, is_domain_of_some_name, is_tenant_of_some_name};
 use std::alloc::Global;
-use std::collections::BTreeSet;
 use toml::{Table, Value};
 
 /// The first fault of the document.
@@ -33,7 +30,7 @@ pub(crate) fn faults_in(alloc: Global, document: &Table) -> Result<FirstFault, M
     }
     if let Some(queues) = table_at(document, "queue") {
         note_queues(alloc, &mut faults, queues)?;
-        note_twice(alloc, &mut faults, queues)?;
+        note_twice::<QueueTables>(alloc, &mut faults, "queue", queues)?;
     }
     Ok(faults)
 }
@@ -189,7 +186,8 @@ fn note_domain_queues(
     key: &str,
     table: &Table,
 ) -> Result<(), Memory>
-    ensures { OnOk result (faults.new ≡ first_of faults.old (faults_in_domain_queues place.now key.now (table_view table.now))) }
+    ensures { OnOk result (faults.new ≡ first_of faults.old
+        (faults_in_domain_queues place.now key.now (table_view table.now))) }
 {
     let domain = key.to_ascii_lowercase(alloc)?;
     note_name(
@@ -302,43 +300,10 @@ fn note_campaign(
     campaign: &str,
     table: &Table,
 ) -> Result<(), Memory>
-    ensures { OnOk result (faults.new ≡ first_of faults.old (faults_in_campaign place.now campaign.now (table_view table.now))) }
+    ensures { OnOk result (faults.new ≡ first_of faults.old
+        (faults_in_campaign place.now campaign.now (table_view table.now))) }
 {
     note_name(alloc, faults, place, is_campaign_of_some_name(campaign))?;
     note_plain_keys(alloc, faults, place, table)?;
-    Ok(())
-}
-
-/// The domains that are equal in lower case to one before them.
-#[tactic(auto, using(policy_toml::proofs::DomainLemmas::twice_step))]
-fn note_twice(alloc: Global, faults: &mut FirstFault, queues: &Table) -> Result<(), Memory>
-    ensures { OnOk result (faults.new ≡ first_of faults.old
-        (faults_of_twice is_domain_table (codes "queue") none_met (table_view queues.now))) }
-{
-    let mut met: BTreeSet<String> = BTreeSet::new(alloc);
-    for (key, value) in queues.iter() {
-        note_if_met(alloc, faults, &mut met, key.as_str(), value)?;
-    }
-    Ok(())
-}
-
-/// A member of the table `queue`: a domain that is equal in lower case to one of those that were met, to whose names its own
-/// is added.
-#[tactic(auto, unfolding(policy_toml::specs::Domains::faults_if_met, policy_toml::specs::Domains::met_with))]
-fn note_if_met(
-    alloc: Global,
-    faults: &mut FirstFault,
-    met: &mut BTreeSet<String>,
-    key: &str,
-    value: &Value,
-) -> Result<(), Memory>
-    ensures faults { OnOk result (faults.new ≡ first_of faults.old
-        (faults_if_met (is_domain_table key.now (view value.now)) (contains_text met.old) (codes "queue") key.now)) }
-    ensures met { OnOk result ((name : List ℕ) → contains_text met.new name
-        ≡ met_with (is_domain_table key.now (view value.now)) (contains_text met.old) key.now name) }
-{
-    if is_domain_table(key, value) {
-        note_domain(alloc, faults, met, "queue", key)?;
-    }
     Ok(())
 }

@@ -9,8 +9,8 @@ ghost use Rattle.queues_policy.specs.QueuesFile.{ignored_in, ignored_at_top, ign
 
 use crate::values::{is_default, is_setting};
 use kumo_base::Memory;
-use policy_core::{Ignored, PolicyFile};
-use policy_toml::{joined, note_ignored, table_at};
+use policy_fault::{Ignored, PolicyFile, joined};
+use policy_toml::{note_ignored, table_at};
 use std::alloc::Global;
 use toml::{Table, Value};
 

@@ -5,7 +5,7 @@
 #![tactic(auto)]
 
 ghost use Rattle.std.specs.Prelude.{◌≡◌, Ok, IfOk, IfErr};
-ghost use Rattle.policy_core.specs.declared.fault.PolicyFile.TheVariants as file;
+ghost use Rattle.policy_fault.specs.declared.fault.PolicyFile.TheVariants as file;
 ghost use Rattle.policy_toml.specs.Reports.{IsRefusal};
 ghost use Rattle.queues_policy.specs.QueuesFile.{queues_file};
 
@@ -15,7 +15,8 @@ mod queues;
 mod settings;
 mod values;
 
-use policy_core::{Ignored, PolicyFault, PolicyFile, Queues};
+use policy_core::Queues;
+use policy_fault::{Ignored, PolicyFault, PolicyFile};
 use policy_toml::open_document;
 pub use settings::{RetrySettings, ages_of, pool_name_of, settings_for};
 use std::alloc::Global;

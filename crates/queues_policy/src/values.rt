@@ -7,11 +7,12 @@ ghost use Rattle.toml.specs.View.{table_view, view};
 ghost use Rattle.policy_toml.specs.Values.{text_in, duration_at};
 ghost use Rattle.policy_toml.specs.Walks.{value_at, members_at};
 ghost use Rattle.toml.specs.Data.{no_members};
-ghost use Rattle.queues_policy.specs.QueuesFile.{is_interval_key, is_setting, is_default, is_domain_table, interval_at, layer_of};
+ghost use Rattle.queues_policy.specs.QueuesFile.{is_interval_key, is_setting, is_default, interval_at, layer_of};
 
 use kumo_base::{Memory, Text};
-use policy_core::{Layer, Why};
-use policy_toml::{duration_at, entry, is_table, text_at};
+use policy_core::Layer;
+use policy_fault::Why;
+use policy_toml::{DomainTables, duration_at, entry, is_table, text_at};
 use std::alloc::Global;
 use toml::{Table, Value};
 
@@ -36,11 +37,17 @@ pub(crate) fn is_default(key: &str) -> bool
     key == "default"
 }
 
-/// Whether a member of the table `queue` is the table of a domain.
-pub(crate) fn is_domain_table(key: &str, value: &Value) -> bool
-    ensures { result ≡ is_domain_table key.now (view value.now) }
-{
-    !is_default(key) && is_table(value)
+/// The tables of domains among the members of the table `queue`.
+pub(crate) struct QueueTables;
+
+impl DomainTables for QueueTables {
+    ghost use Rattle.queues_policy.specs.QueuesFile.{is_domain_table};
+
+    ghost is_domain = { is_domain_table };
+
+    fn is_domain_table(key: &str, value: &Value) -> bool {
+        !is_default(key) && is_table(value)
+    }
 }
 
 /// The milliseconds of an interval.

@@ -8,7 +8,7 @@ ghost use Rattle.std.specs.Prelude.{◌≡◌, ◌==◌, ◌<◌, ◌≤◌, [],
 ghost use Rattle.kumo_base.specs.Causes.{HasCause};
 ghost use Rattle.kumo_outside.specs.Devices.{one_more};
 ghost use Rattle.kumo_outside.specs.Sessions.{Opening};
-ghost use Rattle.kumo_outside.specs.Told.{extended};
+ghost use Rattle.kumo_outside.specs.Content.{told_with};
 ghost use Rattle.scripted_peer.specs.ScriptedPeer.{LinkState};
 
 use crate::peer::Peer;
@@ -141,12 +141,12 @@ impl Link for ScriptedLink {
       faults = l.faults;
     } };
 
-    #[tactic(auto, unfolding(kumo_outside::specs::Told::extended))]
+    #[tactic(auto, unfolding(kumo_outside::specs::Content::told_with))]
     fn send(&mut self, piece: &[u8]) -> Result<usize, Failed>
         requires { 0 < length piece.now }
         ensures taken { IfOk result (λ n. (0 < n) × (n ≤ length piece.now)) }
         ensures sent { MatchResult result
-            (λ n. Some self.new.sent ≡ extended (Some self.old.sent) (take n piece.now))
+            (λ n. Some self.new.sent ≡ told_with (Some self.old.sent) (take n piece.now))
             (λ _. Some self.new.sent ≡ Some self.old.sent) }
         ensures got { Some self.new.got ≡ Some self.old.got }
         ensures ended { self.new.ended ≡ false }
@@ -165,13 +165,13 @@ impl Link for ScriptedLink {
         }
     }
 
-    #[tactic(auto, unfolding(kumo_outside::specs::Told::extended))]
+    #[tactic(auto, unfolding(kumo_outside::specs::Content::told_with))]
     fn recv(&mut self, buffer: &mut [u8]) -> Result<usize, Failed>
         requires { 0 < length buffer.old }
         ensures bound { IfOk result (λ n. n ≤ length buffer.new) }
         ensures sent { Some self.new.sent ≡ Some self.old.sent }
         ensures got { MatchResult result
-            (λ n. Some self.new.got ≡ extended (Some self.old.got) (take n buffer.new))
+            (λ n. Some self.new.got ≡ told_with (Some self.old.got) (take n buffer.new))
             (λ _. Some self.new.got ≡ Some self.old.got) }
         ensures ended { MatchResult result (λ n. self.new.ended ≡ (n == 0)) (λ _. self.new.ended ≡ false) }
         ensures opening { self.new.opening ≡ self.old.opening }

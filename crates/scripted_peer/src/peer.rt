@@ -105,7 +105,8 @@ impl Peer {
     pub fn hear(&mut self, piece: &[u8]) -> Result<(), Memory>
         ensures heard { OnOk result (self.new.heard.items ≡ self.old.heard.items ++ piece.now) }
         ensures said { Begins self.old.said.items self.new.said.items }
-        ensures err { OnErr result ((self.new.heard.items ≡ self.old.heard.items) × (self.new.said.items ≡ self.old.said.items)) }
+        ensures err { OnErr result ((self.new.heard.items ≡ self.old.heard.items)
+            × (self.new.said.items ≡ self.old.said.items)) }
     {
         let before = self.progress;
         let heard = self.heard.len();

@@ -4,51 +4,47 @@
 //! come as a list; nothing is kept. The one refusal is `Memory`.
 ghost use Rattle.std.specs.Prelude.{◌≡◌, ◌++◌, ◌∷◌, [], IfOk, OnOk, map};
 ghost use Rattle.std.specs.List.{filter};
-ghost use Rattle.policy_core.specs.Site.{hosts_of, are_same_texts, is_at_site, own_domain, rollup_of, shape_of};
+ghost use Rattle.policy_core.specs.Site.{hosts_of, are_same_texts, is_at_site, own_domain, rollup_of, domain_shape};
 ghost use Rattle.policy_core.specs.PathTables.{firsts};
 ghost use Rattle.shaping_merge.specs.inside.Domains.{AreDomainsOf};
 ghost use Rattle.shaping_merge.specs.inside.Rollups.{AreRollups};
 
 use crate::rollups::rollup_in;
 use crate::shapes::Shapes;
-use crate::sites::site_name;
+use crate::site_names::is_site_name;
+use crate::sites::rollup_of;
 use kumo_base::{Memory, Text};
-use policy_core::{DomainShape, Policy, Site};
+use policy_core::{DomainShape, Policy, Site, are_same_texts};
 use std::alloc::Global;
 use std::collections::BTreeMap;
 
-/// Whether a domain is at a site. `rollups` are those of the policy.
-fn is_at_site(
-    alloc: Global,
-    policy: &Policy,
-    rollups: &BTreeMap<String, bool>,
-    site: &Site,
-    domain: &str,
-) -> Result<bool, Memory>
-    requires { AreRollups rollups.now policy.now.shaping.domains }
-    ensures { IfOk result (λ here. here ≡ is_at_site policy.now site.now domain.now) }
+/// Whether a domain, which is given in lower case, is at a site. It looks through the policy's tables of domains.
+pub fn is_at_site(policy: &Policy, domain: &str, site: &Site) -> bool
+    ensures { result ≡ is_at_site policy.now site.now domain.now }
 {
-    is_at(alloc, policy, rollup_in(rollups, domain), site, domain)
+    let rollup = rollup_of(policy.shaping.domains.as_slice(), domain);
+    is_at(policy, rollup, site, domain)
+}
+
+/// Whether a domain is at a site. `rollups` are those of the policy.
+fn is_among(policy: &Policy, rollups: &BTreeMap<String, bool>, site: &Site, domain: &str) -> bool
+    requires { AreRollups rollups.now policy.now.shaping.domains }
+    ensures { result ≡ is_at_site policy.now site.now domain.now }
+{
+    is_at(policy, rollup_in(rollups, domain), site, domain)
 }
 
 /// Whether a domain is at a site. `rollup` says whether the domain shares its site with others of the same hosts.
 #[tactic(auto, unfolding(policy_core::specs::Site::is_at_site, policy_core::specs::Site::site_of))]
-pub(crate) fn is_at(
-    alloc: Global,
-    policy: &Policy,
-    rollup: bool,
-    site: &Site,
-    domain: &str,
-) -> Result<bool, Memory>
-    requires { rollup ≡ rollup_of (shape_of policy.now.shaping domain.now) }
-    ensures { IfOk result (λ here. here ≡ is_at_site policy.now site.now domain.now) }
+pub(crate) fn is_at(policy: &Policy, rollup: bool, site: &Site, domain: &str) -> bool
+    requires { rollup ≡ rollup_of (domain_shape policy.now.shaping domain.now) }
+    ensures { result ≡ is_at_site policy.now site.now domain.now }
 {
     let hosts = site.hosts.as_slice();
     if !are_hosts_of(policy, domain, hosts) {
-        return Ok(false);
+        return false;
     }
-    let name = site_name(alloc, rollup, domain, hosts)?;
-    Ok(name.is_same(site.name.as_str()))
+    is_site_name(site.name.as_str(), rollup, domain, hosts)
 }
 
 /// Whether these are the hosts of a domain.
@@ -71,21 +67,6 @@ fn is_one_text(text: &str, texts: &[Text]) -> bool
     }
 }
 
-/// Whether two lists have the same texts in the same order.
-fn are_same_texts(texts: &[Text], others: &[Text]) -> bool
-    ensures { result ≡ are_same_texts texts.now others.now }
-{
-    if texts.len() != others.len() {
-        return false;
-    }
-    for place in 0..texts.len() {
-        if !texts[place].is_same(others[place].as_str()) {
-            return false;
-        }
-    }
-    true
-}
-
 /// The domains of a site, some of them more than once: of the MX rows, of the shaping tables, and the host that is a site of
 /// its own. `shapes` are those of the site, of tables of the same domain the first.
 pub(crate) fn domains_of<'p>(
@@ -100,15 +81,14 @@ pub(crate) fn domains_of<'p>(
     ensures { IfOk result (λ domains. AreDomainsOf policy.now site.now (map (λ domain. domain.now) domains.items)) }
 {
     let mut domains = Vec::new(alloc);
-    add_of_rows(alloc, policy, &shapes.rollups, site, &mut domains)?;
+    add_of_rows(policy, &shapes.rollups, site, &mut domains)?;
     add_of_shapes(shapes.at_site.as_slice(), &mut domains)?;
-    add_own(alloc, policy, &shapes.rollups, site, &mut domains)?;
+    add_own(policy, &shapes.rollups, site, &mut domains)?;
     Ok(domains)
 }
 
 /// Adds those of the domains of the MX rows that are at the site.
 fn add_of_rows<'p>(
-    alloc: Global,
     policy: &'p Policy,
     rollups: &BTreeMap<String, bool>,
     site: &Site,
@@ -121,7 +101,7 @@ fn add_of_rows<'p>(
 {
     for row in policy.mx.rows.as_slice() {
         let domain = row.domain.as_str();
-        if is_at_site(alloc, policy, rollups, site, domain)? {
+        if is_among(policy, rollups, site, domain) {
             domains.push(domain)?;
         }
     }
@@ -141,7 +121,6 @@ fn add_of_shapes<'p>(shapes: &[&'p DomainShape], domains: &mut Vec<&'p str>) -> 
 
 /// Adds the host that has no row and is a site of its own, where the site has its name.
 fn add_own<'p>(
-    alloc: Global,
     policy: &Policy,
     rollups: &BTreeMap<String, bool>,
     site: &'p Site,
@@ -152,7 +131,7 @@ fn add_own<'p>(
         ≡ map (λ domain. domain.now) domains.old.items ++ own_domain policy.now site.now) }
 {
     let host = site.name.as_str();
-    if policy.mx.hosts(host).is_none() && is_at_site(alloc, policy, rollups, site, host)? {
+    if policy.mx.hosts(host).is_none() && is_among(policy, rollups, site, host) {
         domains.push(host)?;
     }
     Ok(())

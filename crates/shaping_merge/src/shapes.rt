@@ -2,7 +2,7 @@
 ghost use Rattle.std.specs.Prelude.{◌≡◌, ◌++◌, ℕ, List, None, IfOk, OnOk, map};
 ghost use Rattle.std.specs.BTreeMap.{get_by_text};
 ghost use Rattle.std.specs.List.{filter};
-ghost use Rattle.policy_core.specs.Site.{is_at_site, rollup_of, shape_of};
+ghost use Rattle.policy_core.specs.Site.{is_at_site, rollup_of, domain_shape};
 ghost use Rattle.policy_core.specs.PathTables.{firsts};
 ghost use Rattle.shaping_merge.specs.inside.Rollups.{AreRollups, with_shape, kept_shape};
 
@@ -50,7 +50,7 @@ fn add_shape<'p>(
     shape: &'p DomainShape,
 ) -> Result<(), Memory>
     requires { get_by_text rollups.old shape.now.domain ≡ None → shape.now.rollup
-        ≡ rollup_of (shape_of policy.now.shaping shape.now.domain) }
+        ≡ rollup_of (domain_shape policy.now.shaping shape.now.domain) }
     ensures rollups { OnOk result ((name : List ℕ) → get_by_text rollups.new name
         ≡ with_shape (get_by_text rollups.old name) shape.now name) }
     ensures at_site { OnOk result (map (λ shape. shape.now) at_site.new.items
@@ -58,7 +58,7 @@ fn add_shape<'p>(
         (get_by_text rollups.old shape.now.domain) shape.now) }
 {
     let domain = shape.domain.as_str();
-    if add_rollup(alloc, rollups, shape)? && is_at(alloc, policy, shape.rollup, site, domain)? {
+    if add_rollup(alloc, rollups, shape)? && is_at(policy, shape.rollup, site, domain) {
         at_site.push(shape)?;
     }
     Ok(())

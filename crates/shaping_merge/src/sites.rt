@@ -43,28 +43,23 @@ fn copy_texts(alloc: Global, texts: &[Text]) -> Result<Items<Text>, Memory>
 }
 
 /// Whether a domain shares its site with others of the same hosts. Of tables of the same domain the first counts.
-fn rollup_of(domains: &[DomainShape], domain: &str) -> bool
+pub(crate) fn rollup_of(domains: &[DomainShape], domain: &str) -> bool
     ensures { result ≡ rollup_of (find (λ d. bytes_eq d.domain domain.now) domains.now) }
 {
-    match shape_of(domains, domain) {
+    match domain_shape(domains, domain) {
         Some(shape) => shape.rollup,
         None => true,
     }
 }
 
-fn shape_of<'p>(domains: &'p [DomainShape], domain: &str) -> Option<&'p DomainShape>
+fn domain_shape<'p>(domains: &'p [DomainShape], domain: &str) -> Option<&'p DomainShape>
     ensures { option_map (λ d. d.now) result ≡ find (λ d. bytes_eq d.domain domain.now) domains.now }
 {
     domains.iter().find(|d| d.domain.is_same(domain))
 }
 
 /// The name of the site of a domain with these hosts.
-pub(crate) fn site_name(
-    alloc: Global,
-    rollup: bool,
-    domain: &str,
-    hosts: &[Text],
-) -> Result<Text, Memory>
+fn site_name(alloc: Global, rollup: bool, domain: &str, hosts: &[Text]) -> Result<Text, Memory>
     ensures { IfOk result (λ name. name ≡ site_name rollup domain.now hosts.now) }
 {
     let mut name = Text::new(alloc);

@@ -5,9 +5,9 @@ use Rattle.std.specs.Ordering.{is_eq, ordering_then, ordering_reverse}
 use Rattle.std.proofs.lemmas.Cmp.{then_total, on_total, nat_cmp_total, nat_list_cmp_total}
 use Rattle.std.proofs.lemmas.List.Sorted.{ranks_by}
 use Rattle.std.proofs.lemmas.Map.Lookups.{exact_unsigned, exact_bytes}
-use Rattle.policy_core.specs.declared.fault.Why.{Why}
-use Rattle.policy_core.specs.contracts.fault.Why.{the_type}
-use Rattle.policy_core.specs.contracts.fault.WhyOrd.TheImpl.Laws.{matches_eq-law}
+use Rattle.policy_fault.specs.declared.fault.Why.{Why}
+use Rattle.policy_fault.specs.contracts.fault.Why.{the_type}
+use Rattle.policy_fault.specs.contracts.fault.WhyOrd.TheImpl.Laws.{matches_eq-law}
 use Rattle.policy_toml.specs.declared.fault.Fault.{Fault}
 use Rattle.policy_toml.specs.Places.{fault_in, why_cmp, fault_cmp, first_of, earlier}
 use Rattle.policy_toml.proofs.FirstLemmas.{fault_cmp_total}

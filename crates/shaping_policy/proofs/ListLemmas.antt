@@ -5,7 +5,7 @@ use Rattle.std.proofs.lemmas.List.{drop_more}
 use Rattle.toml.specs.Data.{Data}
 use Rattle.toml.specs.View.{items_view}
 use Rattle.toml.specs.declared.value.Value.{Value}
-use Rattle.policy_core.specs.declared.fault.Why.{Why}
+use Rattle.policy_fault.specs.declared.fault.Why.{Why}
 use Rattle.policy_toml.specs.declared.fault.Fault.{Fault}
 use Rattle.policy_toml.specs.Places.{first_of}
 use Rattle.policy_toml.proofs.Faults.{first_of_append}

@@ -2,7 +2,7 @@
 use Rattle.std.proofs.Common.{◌≡◌, refl, Result, Ok, Err}
 use Rattle.std.specs.Prelude.{IfOk}
 use Rattle.toml.specs.Data.{Data}
-use Rattle.policy_core.specs.declared.fault.Why.{Why}
+use Rattle.policy_fault.specs.declared.fault.Why.{Why}
 use Rattle.policy_core.specs.declared.rules.Setting.{Setting}
 use Rattle.policy_core.specs.declared.rules.Setting.TheVariants as set
 use Rattle.policy_core.specs.declared.option_name.OptionName.{OptionName}

@@ -7,8 +7,8 @@ use Rattle.toml.specs.Data.{Data, as_str}
 use Rattle.toml.specs.View.{view, items_view}
 use Rattle.toml.specs.declared.value.Value.{Value}
 use Rattle.kumo_outside.specs.Search.{is_pattern}
-use Rattle.policy_core.specs.declared.fault.Why.{Why}
-use Rattle.policy_core.specs.declared.fault.Why.TheVariants.{BadPattern}
+use Rattle.policy_fault.specs.declared.fault.Why.{Why}
+use Rattle.policy_fault.specs.declared.fault.Why.TheVariants.{BadPattern}
 use Rattle.policy_toml.specs.declared.fault.Fault.{Fault}
 use Rattle.policy_toml.proofs.Faults.{first_of_append}
 use Rattle.policy_toml.specs.Places.{fault_in, first_of}

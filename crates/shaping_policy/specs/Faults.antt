@@ -5,13 +5,14 @@ use Rattle.std.specs.Ordering.{is_lt}
 use Rattle.std.specs.Str.{str_to_ascii_lowercase}
 use Rattle.toml.specs.Data.{Data, Items, no_items, item, Members, get_member, as_str, as_table, as_array, as_bool}
 use Rattle.policy_core.specs.Names.{is_source_name, is_host_name}
-use Rattle.policy_core.specs.declared.fault.Why.{Why}
-use Rattle.policy_core.specs.declared.fault.Why.TheVariants.{BadType, BadName, BadPattern, BadAction, BadMatch}
+use Rattle.policy_fault.specs.declared.fault.Why.{Why}
+use Rattle.policy_fault.specs.declared.fault.Why.TheVariants.{BadType, BadName, BadPattern, BadAction, BadMatch}
 use Rattle.policy_core.specs.declared.rules.Setting.{Setting}
 use Rattle.policy_core.specs.declared.shaping.Match.{Match}
 use Rattle.policy_core.specs.declared.shaping.Match.TheVariants as kind
 use Rattle.policy_toml.specs.declared.fault.Fault.{Fault}
-use Rattle.policy_toml.specs.Places.{fault, fault_in, joined, whole_table, fault_cmp}
+use Rattle.policy_fault.specs.TableNames.{joined}
+use Rattle.policy_toml.specs.Places.{fault, fault_in, whole_table, fault_cmp}
 use Rattle.policy_toml.specs.Walks.{over_members, on_table, is_table, members_at, faults_of_value}
 use Rattle.policy_toml.specs.Domains.{none_met, faults_of_twice}
 use Rattle.shaping_policy.specs.declared.tables.TableKind.{TableKind}

@@ -5,8 +5,8 @@ use Rattle.toml.specs.Data.{Data, string, integer, Members}
 use Rattle.throttle_spec.specs.Throttle.{Throttle}
 use Rattle.throttle_spec.specs.ThrottleText.{is_underscore, without_word, number_of, throttle_of}
 use Rattle.throttle_spec.specs.declared.parse.ThrottleFault.{ThrottleFault}
-use Rattle.policy_core.specs.declared.fault.Why.{Why}
-use Rattle.policy_core.specs.declared.fault.Why.TheVariants.{BadType, BadOption, BadThrottle}
+use Rattle.policy_fault.specs.declared.fault.Why.{Why}
+use Rattle.policy_fault.specs.declared.fault.Why.TheVariants.{BadType, BadOption, BadThrottle}
 use Rattle.policy_core.specs.declared.option_name.OptionName.{OptionName}
 use Rattle.policy_core.specs.declared.option_name.OptionName.TheVariants as option
 use Rattle.policy_core.specs.declared.options.Options.{Options}

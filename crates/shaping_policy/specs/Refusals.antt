@@ -1,9 +1,9 @@
 -- How the reader of a shaping file answers where it gives no data.
 use Rattle.std.specs.Prelude.{◌≡◌, ◌≤◌, ℕ, Result, IfErr, ⊤}
 use Rattle.kumo_base.specs.Causes.{Rose}
-use Rattle.policy_core.specs.declared.fault.PolicyFile.TheVariants as file
-use Rattle.policy_core.specs.declared.fault.PolicyFault.{PolicyFault}
-use Rattle.policy_core.specs.declared.fault.PolicyFault.TheVariants as policy_fault
+use Rattle.policy_fault.specs.declared.fault.PolicyFile.TheVariants as file
+use Rattle.policy_fault.specs.declared.fault.PolicyFault.{PolicyFault}
+use Rattle.policy_fault.specs.declared.fault.PolicyFault.TheVariants as policy_fault
 use Rattle.policy_toml.specs.declared.fault.Fault.{Fault}
 use Rattle.policy_toml.specs.Reports.{IsRefusal}
 

@@ -5,8 +5,8 @@ use Rattle.std.specs.List.{list_any, before_first, after_first}
 use Rattle.toml.specs.Data.{Data, string, table, Items, no_items, item, Members, no_members, member, get_member, as_str, as_array, as_table}
 use Rattle.kumo_outside.specs.Search.{is_pattern}
 use Rattle.throttle_spec.specs.ThrottleText.{is_slash, number_of, period_of}
-use Rattle.policy_core.specs.declared.fault.Why.{Why}
-use Rattle.policy_core.specs.declared.fault.Why.TheVariants.{BadType, BadPattern, BadTrigger, BadAction, BadDuration}
+use Rattle.policy_fault.specs.declared.fault.Why.{Why}
+use Rattle.policy_fault.specs.declared.fault.Why.TheVariants.{BadType, BadPattern, BadTrigger, BadAction, BadDuration}
 use Rattle.policy_core.specs.declared.rules.Setting.{Setting}
 use Rattle.policy_core.specs.declared.rules.Action.{Action}
 use Rattle.policy_core.specs.declared.rules.Action.TheVariants as act

@@ -3,8 +3,8 @@ use Rattle.std.specs.Prelude.{ℕ, List, [], ◌∷◌, ◌++◌, Bool, true, fa
 use Rattle.std.specs.List.{flat_map, list_any}
 use Rattle.std.specs.Str.{str_to_ascii_lowercase}
 use Rattle.toml.specs.Data.{Data, Members, no_members, member, get_member, as_str, as_table, as_bool}
-use Rattle.policy_core.specs.declared.fault.PolicyFile.TheVariants as file
-use Rattle.policy_core.specs.declared.fault.Ignored.{Ignored}
+use Rattle.policy_fault.specs.declared.fault.PolicyFile.TheVariants as file
+use Rattle.policy_fault.specs.declared.fault.Ignored.{Ignored}
 use Rattle.policy_core.specs.declared.rules.Rule.{Rule}
 use Rattle.policy_core.specs.declared.rules.Action.{Action}
 use Rattle.policy_core.specs.declared.rules.Action.TheVariants as act

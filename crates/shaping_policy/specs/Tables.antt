@@ -3,7 +3,7 @@
 use Rattle.std.specs.Prelude.{ℕ, ◌+◌, List, [], ◌∷◌, ◌++◌, bytes_eq, codes, if◌then◌else◌}
 use Rattle.std.specs.List.{flat_map}
 use Rattle.toml.specs.Data.{Data, Items, no_items, item, Members, get_member, as_table, as_array}
-use Rattle.policy_toml.specs.Places.{joined}
+use Rattle.policy_fault.specs.TableNames.{joined}
 use Rattle.policy_toml.specs.Walks.{over_members, on_table, members_at}
 use Rattle.shaping_policy.specs.declared.tables.TableKind.{TableKind}
 use Rattle.shaping_policy.specs.declared.tables.TableKind.TheVariants.{Default, Provider, Domain, Source}

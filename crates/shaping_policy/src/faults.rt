@@ -12,14 +12,15 @@ ghost use Rattle.shaping_policy.specs.Tables.{tables_in, rules_in};
 ghost use Rattle.shaping_policy.specs.inside.Seen.{seen_table, seen_rule};
 ghost use Rattle.shaping_policy.specs.Faults.{plain_faults, faults_at_top, faults_of_provider, faults_of_table, faults_of_name, is_named_well, faults_of_kind, faults_at_key, faults_of_setting, faults_of_sources, faults_of_source, faults_of_rollup, faults_of_automation, faults_of_entries, faults_of_entry, has_sources, is_domain_kind};
 
-use crate::domains::note_twice;
+use crate::domains::ShapeTables;
 use crate::match_faults::note_match;
 use crate::option_values::setting_at;
 use crate::rule_faults::note_rules;
 use crate::tables::{FileTable, RuleTable, TableKind};
 use kumo_base::Memory;
-use policy_core::{Setting, Why, is_host_name, is_source_name};
-use policy_toml::{FirstFault, WHOLE_TABLE, entry, is_table, joined, table_at};
+use policy_core::{Setting, is_host_name, is_source_name};
+use policy_fault::{Why, joined};
+use policy_toml::{FirstFault, WHOLE_TABLE, entry, is_table, note_twice, table_at};
 use std::alloc::Global;
 use toml::{Table, Value};
 
@@ -40,7 +41,7 @@ pub(crate) fn plain_faults(
     if let Some(providers) = table_at(document, "provider") {
         note_providers(alloc, &mut faults, providers)?;
     }
-    note_twice(alloc, &mut faults, document)?;
+    note_twice::<ShapeTables>(alloc, &mut faults, "", document)?;
     note_tables(alloc, &mut faults, tables)?;
     note_rules(alloc, &mut faults, rules)?;
     Ok(faults)

@@ -13,7 +13,8 @@ ghost use Rattle.shaping_policy.specs.ShapingFile.{ignored_of_table, ignored_at_
 use crate::rule_values::action_at;
 use crate::tables::{FileTable, RuleTable, TableKind, items_at};
 use kumo_base::Memory;
-use policy_core::{Action, Ignored, OptionName, PolicyFile};
+use policy_core::{Action, OptionName};
+use policy_fault::{Ignored, PolicyFile};
 use policy_toml::{note_ignored, numbered};
 use std::alloc::Global;
 use toml::{Table, Value};

@@ -7,9 +7,15 @@
 //! give.
 #![tactic(auto)]
 
-ghost use Rattle.std.specs.Prelude.{◌≡◌, Ok, IfOk, IfErr};
+ghost use Rattle.std.specs.Prelude.{◌≡◌, Ok, Some, None, IfOk, IfErr, OnOk, map};
+ghost use Rattle.toml.specs.View.{table_view};
+ghost use Rattle.policy_toml.specs.Places.{first_of};
+ghost use Rattle.policy_toml.specs.Reports.{reading};
+ghost use Rattle.shaping_policy.specs.Faults.{faults_in};
 ghost use Rattle.shaping_policy.specs.Refusals.{IsShapingRefusal, HasReadCause};
-ghost use Rattle.shaping_policy.specs.ShapingFile.{shaping_file};
+ghost use Rattle.shaping_policy.specs.ShapingFile.{shaping_file, file_of};
+ghost use Rattle.shaping_policy.specs.Tables.{tables_in, rules_in};
+ghost use Rattle.shaping_policy.specs.inside.Seen.{seen_table, seen_rule};
 
 mod domains;
 mod faults;
@@ -27,9 +33,12 @@ mod text_places;
 
 use kumo_outside::{Search, SearchFault};
 pub use patterns::{PATTERN_COUNT_LIMIT, PATTERN_LIMIT};
-use policy_core::{Ignored, PolicyFault, PolicyFile, Shaping};
+use policy_core::Shaping;
+use policy_fault::{Ignored, PolicyFault, PolicyFile};
 use policy_toml::open_document;
 use std::alloc::Global;
+use tables::{FileTable, RuleTable};
+use toml::Table;
 
 /// What a shaping file says of paths, and its keys that have no effect, from the bytes of the file (TOML). It reads:
 /// - The table `default`, for all paths; `provider`, with a table for each provider; at any other key of the top level the
@@ -58,8 +67,8 @@ use std::alloc::Global;
 /// - `BadName`: a domain, provider or source of a name that none may have. The key is `-`.
 /// - `Twice`: a domain equal in lower case to one before it in byte order. The key is `-`.
 /// - `BadDuration`: a `duration` that is not there, or a text or number that is no duration.
-/// - `BadOption`, `BadThrottle`: a number, text or duration that the option may not have. The key is that of the option, or `action`
-///   where a rule sets it.
+/// - `BadOption`, `BadThrottle`: a number, text or duration that the option may not have. The key is that of the option, or
+///   `action` where a rule sets it.
 /// - `BadPattern`: a `regex` that is not there, no pattern, too long, or one too many.
 /// - `BadTrigger`: a `trigger` that is a text or table and no trigger.
 /// - `BadAction`: an `action` that is not there, or is none.
@@ -67,7 +76,7 @@ use std::alloc::Global;
 ///
 /// `Search` is the answer where the engine failed on a pattern and counted a fault, and `Memory` where there was no memory;
 /// of the text these say nothing. After every answer the engine may be asked again, and its count of faults has not fallen.
-#[tactic(auto, using(policy_toml::proofs::Faults::first_of_append), unfolding(crate::specs::ShapingFile::shaping_file, crate::specs::ShapingFile::ignored_in, crate::specs::Faults::faults_in))]
+#[tactic(auto, unfolding(crate::specs::ShapingFile::shaping_file, crate::specs::ShapingFile::ignored_in))]
 pub fn read_shaping<S: Search>(
     alloc: Global,
     text: &[u8],
@@ -80,16 +89,42 @@ pub fn read_shaping<S: Search>(
     let document = open_document(alloc, PolicyFile::Shaping, text)?;
     let tables = tables::tables_in(alloc, &document)?;
     let rules = tables::rules_in(alloc, tables.as_slice())?;
-    let mut faults = faults::plain_faults(alloc, &document, tables.as_slice(), rules.as_slice())?;
-    match patterns::note_patterns(alloc, &mut faults, rules.as_slice(), search) {
+    check_faults(
+        alloc,
+        &document,
+        tables.as_slice(),
+        rules.as_slice(),
+        search,
+    )?;
+    let shaping = shaping::shaping_in(alloc, &document)?;
+    let ignored = ignored::ignored_in(alloc, tables.as_slice(), rules.as_slice())?;
+    Ok((shaping, ignored))
+}
+
+/// Refuses a document of these tables and rules that has a fault.
+#[tactic(auto, using(policy_toml::proofs::Faults::first_of_append), unfolding(crate::specs::Faults::faults_in))]
+fn check_faults<S: Search>(
+    alloc: Global,
+    document: &Table,
+    tables: &[FileTable<'_>],
+    rules: &[RuleTable<'_>],
+    search: &mut S,
+) -> Result<(), PolicyFault>
+    requires tables { map seen_table tables.now ≡ tables_in (table_view document.now) }
+    requires rules { map seen_rule rules.now ≡ rules_in (tables_in (table_view document.now)) }
+    ensures ok { OnOk result (first_of None (faults_in (table_view document.now)) ≡ None) }
+    ensures err { IfErr result (λ fault. IsShapingRefusal fault
+        (reading faults_in file_of (Some (table_view document.now)))) }
+    ensures cause { HasReadCause (S.seen search.old).faults (S.seen search.new).faults result }
+{
+    let mut faults = faults::plain_faults(alloc, document, tables, rules)?;
+    match patterns::note_patterns(alloc, &mut faults, rules, search) {
         Ok(()) => {}
         Err(SearchFault::Search) => return Err(PolicyFault::Search),
         Err(SearchFault::Memory) => return Err(PolicyFault::Memory),
     }
-    if let Some(fault) = faults.into_fault() {
-        return Err(fault.reported(alloc, PolicyFile::Shaping));
+    match faults.into_fault() {
+        Some(fault) => Err(fault.reported(alloc, PolicyFile::Shaping)),
+        None => Ok(()),
     }
-    let shaping = shaping::shaping_in(alloc, &document)?;
-    let ignored = ignored::ignored_in(alloc, tables.as_slice(), rules.as_slice())?;
-    Ok((shaping, ignored))
 }

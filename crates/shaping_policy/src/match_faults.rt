@@ -1,14 +1,14 @@
 //! The faults of the matches of providers.
 ghost use Rattle.std.specs.Prelude.{◌≡◌, OnOk, codes, option_map};
 ghost use Rattle.toml.specs.View.{view, items_view};
-ghost use Rattle.policy_core.specs.declared.fault.Why.TheVariants.{BadMatch};
+ghost use Rattle.policy_fault.specs.declared.fault.Why.TheVariants.{BadMatch};
 ghost use Rattle.policy_toml.specs.Places.{first_of};
 ghost use Rattle.policy_toml.specs.Walks.{is_table};
 ghost use Rattle.shaping_policy.specs.Faults.{match_at, faults_of_match, faults_of_list, faults_from, faults_of_one, faults_of_read};
 
 use crate::rule_values::suffix_at;
 use kumo_base::Memory;
-use policy_core::Why;
+use policy_fault::Why;
 use policy_toml::{FirstFault, is_table};
 use std::alloc::Global;
 use toml::Value;

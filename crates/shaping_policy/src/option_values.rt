@@ -10,7 +10,8 @@ ghost use Rattle.policy_core.specs.OptionNames.{name_of_option};
 ghost use Rattle.policy_toml.specs.Walks.{value_at};
 ghost use Rattle.shaping_policy.specs.OptionValues.{option_number, whole_number, spelled_number, digits_in, number_at, rate_at, timeout_at, setting_of, setting_at, options_of};
 
-use policy_core::{GREATEST_OPTION, OptionName, Options, Setting, Why};
+use policy_core::{GREATEST_OPTION, OptionName, Options, Setting};
+use policy_fault::Why;
 use policy_toml::{duration_at, entry};
 use throttle_spec::{ThrottleSpec, number_in, without_local};
 use toml::{Table, Value};

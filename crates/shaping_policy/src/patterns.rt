@@ -7,7 +7,7 @@ ghost use Rattle.std.specs.Prelude.{◌≡◌, ◌∷◌, [], map, codes, is_ok,
 ghost use Rattle.std.specs.List.{flat_map};
 ghost use Rattle.toml.specs.View.{view, items_view};
 ghost use Rattle.kumo_outside.specs.Search.{HasSearchCause};
-ghost use Rattle.policy_core.specs.declared.fault.Why.TheVariants.{BadPattern, BadType};
+ghost use Rattle.policy_fault.specs.declared.fault.Why.TheVariants.{BadPattern, BadType};
 ghost use Rattle.policy_toml.specs.Places.{first_of, fault_in};
 ghost use Rattle.shaping_policy.specs.inside.Seen.{seen_rule};
 ghost use Rattle.shaping_policy.specs.RuleValues.{pattern_at};
@@ -17,7 +17,7 @@ use crate::tables::RuleTable;
 use crate::text_places::note_too_many;
 use kumo_base::Memory;
 use kumo_outside::{Search, SearchFault};
-use policy_core::Why;
+use policy_fault::Why;
 use policy_toml::{FirstFault, entry};
 use std::alloc::Global;
 use toml::Value;

@@ -6,7 +6,7 @@
 ghost use Rattle.std.specs.Prelude.{◌≡◌, ◌||◌, OnOk, codes, map, option_map};
 ghost use Rattle.std.specs.List.{flat_map};
 ghost use Rattle.toml.specs.View.{table_view, view, items_view};
-ghost use Rattle.policy_core.specs.declared.fault.Why.TheVariants.{BadType};
+ghost use Rattle.policy_fault.specs.declared.fault.Why.TheVariants.{BadType};
 ghost use Rattle.policy_toml.specs.Places.{first_of};
 ghost use Rattle.policy_toml.specs.Walks.{is_table};
 ghost use Rattle.shaping_policy.specs.RuleValues.{action_at};
@@ -16,7 +16,7 @@ ghost use Rattle.shaping_policy.specs.Faults.{faults_of_rule, faults_of_action, 
 use crate::rule_values::{action_at, lasting_at, trigger_at};
 use crate::tables::RuleTable;
 use kumo_base::Memory;
-use policy_core::Why;
+use policy_fault::Why;
 use policy_toml::{FirstFault, entry, is_table};
 use std::alloc::Global;
 use toml::Value;

@@ -15,7 +15,8 @@ ghost use Rattle.shaping_policy.specs.inside.Suffixes.{match_of};
 
 use crate::option_values::setting_at;
 use kumo_base::{Memory, Text, around_first};
-use policy_core::{Action, GREATEST_COUNT, Match, Setting, Trigger, Why};
+use policy_core::{Action, GREATEST_COUNT, Match, Setting, Trigger};
+use policy_fault::Why;
 use policy_toml::{duration_at, entry, table_at};
 use std::alloc::Global;
 use throttle_spec::{number_in, period_of};

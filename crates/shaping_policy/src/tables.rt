@@ -11,7 +11,8 @@ ghost use Rattle.shaping_policy.specs.RuleValues.{items_at};
 ghost use Rattle.shaping_policy.specs.Tables.{tables_in, tables_at, provider_tables_at, with_sources, placed, source_at, rules_in, rules_of, rules_from, rule_at, list_at};
 
 use kumo_base::{Memory, Text};
-use policy_toml::{entry, joined, table_at};
+use policy_fault::joined;
+use policy_toml::{entry, table_at};
 use std::alloc::Global;
 use toml::{Table, Value};
 
@@ -287,7 +288,8 @@ fn rule_table<'d>(
     number: u64,
     members: &'d Table,
 ) -> Result<RuleTable<'d>, Memory>
-    ensures { IfOk result (λ r. seen_rule r ≡ record { place = place.now; number = number; members = table_view members.now }) }
+    ensures { IfOk result (λ r. seen_rule r
+        ≡ record { place = place.now; number = number; members = table_view members.now }) }
 {
     Ok(RuleTable {
         place: Text::of(alloc, place)?,

@@ -13,7 +13,7 @@ ghost use Rattle.shaping_policy.specs.Faults.{faults_of_many, text_places, text_
 use crate::patterns::PATTERN_COUNT_LIMIT;
 use crate::tables::RuleTable;
 use kumo_base::Memory;
-use policy_core::Why;
+use policy_fault::Why;
 use policy_toml::{FirstFault, entry};
 use std::alloc::Global;
 use toml::Value;

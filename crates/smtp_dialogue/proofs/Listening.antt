@@ -2,7 +2,7 @@
 use Rattle.std.proofs.Common.{◌≡◌, ℕ, ◌+◌, ◌-◌, ◌≤◌, ◌<◌, List, [], ◌++◌, length, take, drop, Ok, Err, refl, ap, sym, subst, ◌∙◌, append_assoc, append-nil, take-append-drop, length-append, length-drop, le_trans, arith}
 use Rattle.std.proofs.lemmas.List.{length-take-le, nil_from_length}
 use Rattle.std.proofs.Math.Seq.{take-append-add, drop-append-add}
-use Rattle.kumo_outside.specs.Told.{extended}
+use Rattle.kumo_outside.specs.Content.{told_with}
 use Rattle.smtp_reply.specs.declared.reply.Reply.{Reply}
 use Rattle.smtp_reply.specs.declared.reply.Lost.{Lost}
 use Rattle.smtp_reply.specs.declared.reply.Lost.TheVariants.{LinkFault, Ended, BadReply, TooLong}
@@ -16,7 +16,7 @@ use Rattle.smtp_reply.specs.Reading.{Reads, Feeds}
 use Rattle.smtp_dialogue.specs.inside.Holding.{Holds, HoldsReply}
 use Rattle.smtp_dialogue.specs.Speaks.{Side, side}
 use Rattle.smtp_dialogue.specs.inside.Asking.{Gets, IsCutOff, IsAnswer, Hears}
-use Rattle.kumo_outside.proofs.ToldLemmas.{extended-next, extended-nil}
+use Rattle.kumo_outside.proofs.ContentLemmas.{told_with-next, told_with-nil}
 use Rattle.smtp_reply.proofs.HeardLemmas.{more_is_short, more_uses_all}
 use Rattle.smtp_reply.proofs.WholeLemmas.{reader_proper}
 
@@ -24,7 +24,7 @@ use Rattle.smtp_reply.proofs.WholeLemmas.{reader_proper}
 pub gets_none : (old new : Side) → new.link.got ≡ old.link.got → new.link.sent ≡ old.link.sent → new.unread ≡ old.unread → old.link.faults ≤ new.link.faults → Gets old new
 gets_none old new g s u f = record {
   more = [];
-  grows = g ∙ sym (extended-nil old.link.got);
+  grows = g ∙ sym (told_with-nil old.link.got);
   added = u ∙ sym (append-nil old.unread);
   sent_is = s;
   later = f;
@@ -34,7 +34,7 @@ gets_none old new g s u f = record {
 pub record IsReading (old new : Side) (reader : ReplyReader) (left : ℕ) : Type 0 where
   pub so_far : List ℕ
   pub more : List ℕ
-  pub grows : new.link.got ≡ extended old.link.got more
+  pub grows : new.link.got ≡ told_with old.link.got more
   pub sent_is : new.link.sent ≡ old.link.sent
   pub later : old.link.faults ≤ new.link.faults
   pub came : so_far ++ new.unread ≡ old.unread ++ more
@@ -46,7 +46,7 @@ pub reading_begins : (old : Side) (reader : ReplyReader) → Reads reader [] →
 reading_begins old reader r = record {
   so_far = [];
   more = [];
-  grows = sym (extended-nil old.link.got);
+  grows = sym (told_with-nil old.link.got);
   sent_is = refl;
   later = omega arith;
   came = sym (append-nil old.unread);
@@ -59,7 +59,7 @@ pub reading_gets : {s0 s1 s2 : Side} {reader : ReplyReader} {left : ℕ} → IsR
 reading_gets {s0} {s1} {s2} {reader} {left} i g = record {
   so_far = i.so_far;
   more = i.more ++ g.more;
-  grows = extended-next s0.link.got s1.link.got s2.link.got i.more g.more i.grows g.grows;
+  grows = told_with-next s0.link.got s1.link.got s2.link.got i.more g.more i.grows g.grows;
   sent_is = g.sent_is ∙ i.sent_is;
   later = le_trans i.later g.later;
   came =
@@ -131,7 +131,7 @@ heard_cut_off why {T} {s0} {s1} {s2} {reader} {reader'} {left} {fed} {unread} i 
     ap (λ (m : List ℕ). (heard (s0.unread ++ (i.more ++ m))).what) none ∙ ap (λ (m : List ℕ). (heard (s0.unread ++ m)).what) (append-nil i.more) ∙ heard_came i f ∙ w in
     record {
       more = i.more ++ g.more;
-      grows = extended-next s0.link.got s1.link.got s2.link.got i.more g.more i.grows g.grows;
+      grows = told_with-next s0.link.got s1.link.got s2.link.got i.more g.more i.grows g.grows;
       sent_is = g.sent_is ∙ i.sent_is;
       later = le_trans i.later g.later;
       answer = cut_off_answer why T (s0.unread ++ (i.more ++ g.more)) s0 (side s1.link unread) s2 more i.later c;

@@ -2,7 +2,7 @@
 use Rattle.std.proofs.Common.{◌≡◌, ℕ, ◌≤◌, ◌⊎◌, List, [], ◌++◌, codes, Bool, true, false, Option, Ok, Err, refl, ap, ap₂, sym, subst, inl, inr, ◌∙◌, append_assoc, append-nil, le_trans, arith}
 use Rattle.std.proofs.lemmas.Bool.{false≢true}
 use Rattle.kumo_base.specs.Causes.{Rose}
-use Rattle.kumo_outside.specs.Told.{extended, TakesFront, TakesProperFront}
+use Rattle.kumo_outside.specs.Content.{told_with, TakesPrefix, TakesProperPrefix}
 use Rattle.smtp_reply.specs.declared.reply.Outcome.{Outcome}
 use Rattle.smtp_reply.specs.declared.reply.Lost.{Lost}
 use Rattle.smtp_reply.specs.declared.reply.Lost.TheVariants.{LinkFault, Ended, BadReply, TooLong}
@@ -13,12 +13,12 @@ use Rattle.smtp_dialogue.specs.Transcript.{Spoken, Standing, over, waiting, is_a
 use Rattle.smtp_dialogue.specs.Speaks.{Side, WentThrough, IsCutAtReset, IsCutShort, Speaks}
 use Rattle.smtp_dialogue.specs.inside.Asking.{Sends, FailsToSend, IsReply, IsAnswer, Hears, FailsToAsk, Asks}
 use Rattle.smtp_dialogue.specs.inside.Tries.{standing_of}
-use Rattle.kumo_outside.proofs.ToldLemmas.{extended-next, extended-nil, TakesFront-after, TakesProperFront-after, TakesProperFront-more, TakesFront-proper, TakesFront-whole}
+use Rattle.kumo_outside.proofs.ContentLemmas.{told_with-next, told_with-nil, TakesPrefix-after, TakesProperPrefix-after, TakesProperPrefix-more, TakesPrefix-proper, TakesPrefix-whole}
 use Rattle.smtp_dialogue.proofs.Stability.{answered_whole}
 
-whole_behind : (old mid new : Side) (words : List ℕ) (v t : Spoken) (o : List Outcome) (a : Bool) → mid.link.sent ≡ extended old.link.sent words → v ≡ says words t → WentThrough t mid new o a → WentThrough v old new o a
+whole_behind : (old mid new : Side) (words : List ℕ) (v t : Spoken) (o : List Outcome) (a : Bool) → mid.link.sent ≡ told_with old.link.sent words → v ≡ says words t → WentThrough t mid new o a → WentThrough v old new o a
 whole_behind old mid new words v t o a m e w = record {
-  sent = extended-next old.link.sent mid.link.sent new.link.sent words t.sent m w.sent ∙ ap (λ (s : Spoken). extended old.link.sent s.sent) (sym e);
+  sent = told_with-next old.link.sent mid.link.sent new.link.sent words t.sent m w.sent ∙ ap (λ (s : Spoken). told_with old.link.sent s.sent) (sym e);
   outcomes_are = w.outcomes_are ∙ ap (λ (s : Spoken). s.outcomes) (sym e);
   alive_is = w.alive_is ∙ ap (λ (s : Spoken). is_alive s.standing) (sym e);
   left = λ l. w.left l ∙ ap (λ (s : Spoken). s.rest) (sym e);
@@ -26,33 +26,33 @@ whole_behind old mid new words v t o a m e w = record {
 }
 
 -- words before a part that was cut at RSET
-pub reset_behind : (old mid new : Side) (words : List ℕ) (v t : Spoken) → mid.link.sent ≡ extended old.link.sent words → v.sent ≡ words ++ t.sent → IsCutAtReset t mid new → IsCutAtReset v old new
+pub reset_behind : (old mid new : Side) (words : List ℕ) (v t : Spoken) → mid.link.sent ≡ told_with old.link.sent words → v.sent ≡ words ++ t.sent → IsCutAtReset t mid new → IsCutAtReset v old new
 reset_behind old mid new words v t m e c = record {
   before = words ++ c.before;
   last = e ∙ ap (λ (sent : List ℕ). words ++ sent) c.last ∙ sym (append_assoc words c.before (codes "RSET" ++ crlf));
-  sent_before = subst (λ (sent : Option (List ℕ)). TakesFront sent new.link.sent (codes "RSET" ++ crlf)) (extended-next old.link.sent mid.link.sent (extended mid.link.sent c.before) words c.before m refl) c.sent_before;
+  sent_before = subst (λ (sent : Option (List ℕ)). TakesPrefix sent new.link.sent (codes "RSET" ++ crlf)) (told_with-next old.link.sent mid.link.sent (told_with mid.link.sent c.before) words c.before m refl) c.sent_before;
 }
 
-short_behind : (old mid new : Side) (words : List ℕ) (v t : Spoken) (f o : List Outcome) (a : Bool) → old.link.faults ≤ mid.link.faults → mid.link.sent ≡ extended old.link.sent words → v ≡ says words t → IsCutShort t mid new f o a → IsCutShort v old new f o a
+short_behind : (old mid new : Side) (words : List ℕ) (v t : Spoken) (f o : List Outcome) (a : Bool) → old.link.faults ≤ mid.link.faults → mid.link.sent ≡ told_with old.link.sent words → v ≡ says words t → IsCutShort t mid new f o a → IsCutShort v old new f o a
 short_behind old mid new words v t f o a later m e c = record {
   rose = omega (arith, c.rose);
   alive_is = c.alive_is;
   not_ended = c.not_ended;
-  front = subst (λ (s : Spoken). TakesFront old.link.sent new.link.sent s.sent) (sym e) (TakesFront-after old.link.sent mid.link.sent new.link.sent words t.sent m c.front);
+  prefix = subst (λ (s : Spoken). TakesPrefix old.link.sent new.link.sent s.sent) (sym e) (TakesPrefix-after old.link.sent mid.link.sent new.link.sent words t.sent m c.prefix);
   short = elim c.short [
     | inl w ↦ inl (ap (λ (s : Spoken). s.standing) e ∙ w)
-    | inr p ↦ inr (subst (λ (s : Spoken). TakesProperFront old.link.sent new.link.sent s.sent) (sym e) (TakesProperFront-after old.link.sent mid.link.sent new.link.sent words t.sent m p))
+    | inr p ↦ inr (subst (λ (s : Spoken). TakesProperPrefix old.link.sent new.link.sent s.sent) (sym e) (TakesProperPrefix-after old.link.sent mid.link.sent new.link.sent words t.sent m p))
   ];
   outcomes_are = elim c.outcomes_are [ inl d ↦ inl d | inr d ↦ inr (d.0 ∙ ap (λ (s : Spoken). s.outcomes) (sym e), reset_behind old mid new words v t m (ap (λ (s : Spoken). s.sent) e) d.1) ];
 }
 
 -- words were sent and bytes came, and then what goes on behind them went its way
 speaks_behind : (part next : List ℕ → Spoken) (old mid new : Side) (words came : List ℕ) (f o : List Outcome) (a : Bool)
-    → mid.link.sent ≡ extended old.link.sent words → mid.link.got ≡ extended old.link.got came → old.link.faults ≤ mid.link.faults
+    → mid.link.sent ≡ told_with old.link.sent words → mid.link.got ≡ told_with old.link.got came → old.link.faults ≤ mid.link.faults
     → ((more : List ℕ) → part (old.unread ++ (came ++ more)) ≡ says words (next (mid.unread ++ more))) → Speaks next mid new f o a → Speaks part old new f o a
 speaks_behind part next old mid new words came f o a m g later e y = record {
   more = came ++ y.more;
-  grows = extended-next old.link.got mid.link.got new.link.got came y.more g y.grows;
+  grows = told_with-next old.link.got mid.link.got new.link.got came y.more g y.grows;
   later = le_trans later y.later;
   spoke = elim y.spoke [
     | inl w ↦ inl (whole_behind old mid new words (part (old.unread ++ (came ++ y.more))) (next (mid.unread ++ y.more)) o a m (e y.more) w)
@@ -63,7 +63,7 @@ speaks_behind part next old mid new words came f o a m g later e y = record {
 -- two parts that are the same
 pub speaks_same : {part next : List ℕ → Spoken} {old new : Side} {f o : List Outcome} {a : Bool} → ((bytes : List ℕ) → part bytes ≡ next bytes) → Speaks next old new f o a → Speaks part old new f o a
 speaks_same {part} {next} {old} {new} {f} {o} {a} e y =
-    speaks_behind part next old old new [] [] f o a (sym (extended-nil old.link.sent)) (sym (extended-nil old.link.got)) (omega arith) (λ more. e (old.unread ++ more)) y
+    speaks_behind part next old old new [] [] f o a (sym (told_with-nil old.link.sent)) (sym (told_with-nil old.link.got)) (omega arith) (λ more. e (old.unread ++ more)) y
 
 over_not_waiting : over ≡ waiting → ⊥
 over_not_waiting w = cc
@@ -72,15 +72,15 @@ over_not_waiting w = cc
 pub speaks_ends : (part : List ℕ → Spoken) (old : Side) (f o : List Outcome) (a : Bool) → ((bytes : List ℕ) → part bytes ≡ ends o (standing_of a) bytes) → Speaks part old old f o a
 speaks_ends part old f o true e = record {
   more = [];
-  grows = sym (extended-nil old.link.got);
+  grows = sym (told_with-nil old.link.got);
   later = omega arith;
-  spoke = inl (subst (λ (t : Spoken). WentThrough t old old o true) (sym (e (old.unread ++ []))) (record { sent = sym (extended-nil old.link.sent); outcomes_are = refl; alive_is = refl; left = λ _. sym (append-nil old.unread); waited = λ w. absurd (let n : true ≡ false = ap is_alive w in false≢true (sym n)) }));
+  spoke = inl (subst (λ (t : Spoken). WentThrough t old old o true) (sym (e (old.unread ++ []))) (record { sent = sym (told_with-nil old.link.sent); outcomes_are = refl; alive_is = refl; left = λ _. sym (append-nil old.unread); waited = λ w. absurd (let n : true ≡ false = ap is_alive w in false≢true (sym n)) }));
 }
 speaks_ends part old f o false e = record {
   more = [];
-  grows = sym (extended-nil old.link.got);
+  grows = sym (told_with-nil old.link.got);
   later = omega arith;
-  spoke = inl (subst (λ (t : Spoken). WentThrough t old old o false) (sym (e (old.unread ++ []))) (record { sent = sym (extended-nil old.link.sent); outcomes_are = refl; alive_is = refl; left = λ l. absurd (false≢true l); waited = λ w. absurd (over_not_waiting w) }));
+  spoke = inl (subst (λ (t : Spoken). WentThrough t old old o false) (sym (e (old.unread ++ []))) (record { sent = sym (told_with-nil old.link.sent); outcomes_are = refl; alive_is = refl; left = λ l. absurd (false≢true l); waited = λ w. absurd (over_not_waiting w) }));
 }
 
 -- the bytes behind a reply
@@ -95,13 +95,13 @@ reply_behind next lost unread came more reply left r =
 pub heard_then : (part : List ℕ → Spoken) (next : ℕ → List ℕ → List ℕ → Spoken) (lost : Lost → List Outcome) {old mid new : Side} {T : Type 0} {reply : List ℕ} {x : T} {f o : List Outcome} {a : Bool}
     → ((bytes : List ℕ) → part bytes ≡ answered next lost bytes) → Hears old mid reply (Ok x) → Speaks (next (code_of reply) (one_line_text reply)) mid new f o a → Speaks part old new f o a
 heard_then part next lost {old} {mid} {new} {T} {reply} {x} {f} {o} {a} e h y =
-    speaks_behind part (next (code_of reply) (one_line_text reply)) old mid new [] h.more f o a (h.sent_is ∙ sym (extended-nil old.link.sent)) h.grows h.later
+    speaks_behind part (next (code_of reply) (one_line_text reply)) old mid new [] h.more f o a (h.sent_is ∙ sym (told_with-nil old.link.sent)) h.grows h.later
     (λ more. e (old.unread ++ (h.more ++ more)) ∙ reply_behind next lost old.unread h.more more reply mid.unread h.answer) y
 
 said_then : (part next : List ℕ → Spoken) (words : List ℕ) (old mid new : Side) (f o : List Outcome) (a : Bool) → ((bytes : List ℕ) → part bytes ≡ says words (next bytes)) → mid.unread ≡ old.unread
     → Sends words old.link mid.link → Speaks next mid new f o a → Speaks part old new f o a
 said_then part next words old mid new f o a e u s y =
-    speaks_behind part next old mid new words [] f o a s.whole (s.got_is ∙ sym (extended-nil old.link.got)) s.later
+    speaks_behind part next old mid new words [] f o a s.whole (s.got_is ∙ sym (told_with-nil old.link.got)) s.later
     (λ more. e (old.unread ++ more) ∙ ap (λ (unread : List ℕ). says words (next (unread ++ more))) (sym u)) y
 
 -- words were sent and a reply was read, and then what goes on behind it went its way
@@ -115,7 +115,7 @@ asked_then part next lost {words} {old} {mid} {new} {T} {reply} {x} {f} {o} {a} 
 whole_none : (old new : Side) (v : Spoken) (o : List Outcome) (standing : Standing) (bytes : List ℕ) → v ≡ ends o standing bytes → new.link.sent ≡ old.link.sent → is_alive standing ≡ false
     → (standing ≡ waiting → new.link.ended ≡ true) → WentThrough v old new o false
 whole_none old new v o standing bytes e s d w = record {
-  sent = s ∙ sym (extended-nil old.link.sent) ∙ ap (λ (t : Spoken). extended old.link.sent t.sent) (sym e);
+  sent = s ∙ sym (told_with-nil old.link.sent) ∙ ap (λ (t : Spoken). told_with old.link.sent t.sent) (sym e);
   outcomes_are = ap (λ (t : Spoken). t.outcomes) (sym e);
   alive_is = sym d ∙ ap (λ (t : Spoken). is_alive t.standing) (sym e);
   left = λ l. absurd (false≢true l);
@@ -128,7 +128,7 @@ short_none old new v f o lost bytes e s r n d = record {
   rose = r;
   alive_is = refl;
   not_ended = n;
-  front = TakesFront-whole old.link.sent new.link.sent v.sent (s ∙ sym (extended-nil old.link.sent) ∙ ap (λ (t : Spoken). extended old.link.sent t.sent) (sym e));
+  prefix = TakesPrefix-whole old.link.sent new.link.sent v.sent (s ∙ sym (told_with-nil old.link.sent) ∙ ap (λ (t : Spoken). told_with old.link.sent t.sent) (sym e));
   short = inl (ap (λ (t : Spoken). t.standing) e);
   outcomes_are = inl d;
 }
@@ -172,16 +172,16 @@ unsaid : (part next : List ℕ → Spoken) (words : List ℕ) (old new : Side) (
 unsaid part next words old new f o e x d =
     let t = part (old.unread ++ []) in
     let sent : words ++ (next (old.unread ++ [])).sent ≡ t.sent = ap (λ (t : Spoken). t.sent) (sym (e (old.unread ++ []))) in
-    let short : TakesProperFront old.link.sent new.link.sent t.sent = subst (TakesProperFront old.link.sent new.link.sent) sent (TakesProperFront-more old.link.sent new.link.sent words (next (old.unread ++ [])).sent x.part) in
+    let short : TakesProperPrefix old.link.sent new.link.sent t.sent = subst (TakesProperPrefix old.link.sent new.link.sent) sent (TakesProperPrefix-more old.link.sent new.link.sent words (next (old.unread ++ [])).sent x.part) in
     record {
       more = [];
-      grows = x.got_is ∙ sym (extended-nil old.link.got);
+      grows = x.got_is ∙ sym (told_with-nil old.link.got);
       later = x.later;
       spoke = inr (record {
         rose = x.rose;
         alive_is = refl;
         not_ended = x.not_ended;
-        front = TakesFront-proper old.link.sent new.link.sent t.sent short;
+        prefix = TakesPrefix-proper old.link.sent new.link.sent t.sent short;
         short = inr short;
         outcomes_are = inl d;
       });
@@ -209,14 +209,14 @@ cut_at_reset {t} {old} {new} {f} o s d c = record {
   rose = c.rose;
   alive_is = c.alive_is;
   not_ended = c.not_ended;
-  front = c.front;
+  prefix = c.prefix;
   short = c.short;
   outcomes_are = inr (
     sym d,
     record {
       before = [];
       last = s;
-      sent_before = subst (λ (sent : List ℕ). TakesFront (extended old.link.sent []) new.link.sent sent) s (subst (λ (sent : Option (List ℕ)). TakesFront sent new.link.sent t.sent) (sym (extended-nil old.link.sent)) c.front);
+      sent_before = subst (λ (sent : List ℕ). TakesPrefix (told_with old.link.sent []) new.link.sent sent) s (subst (λ (sent : Option (List ℕ)). TakesPrefix sent new.link.sent t.sent) (sym (told_with-nil old.link.sent)) c.prefix);
     },
   );
 }

@@ -2,7 +2,7 @@
 use Rattle.std.specs.Prelude.{◌≡◌, ℕ, ◌≤◌, ◌⊎◌, List, ◌++◌, codes, Bool, true, false}
 use Rattle.kumo_base.specs.Causes.{Rose}
 use Rattle.kumo_outside.specs.Sessions.{LinkSeen}
-use Rattle.kumo_outside.specs.Told.{extended, TakesFront, TakesProperFront}
+use Rattle.kumo_outside.specs.Content.{told_with, TakesPrefix, TakesProperPrefix}
 use Rattle.smtp_reply.specs.declared.reply.Outcome.{Outcome}
 use Rattle.smtp_dialogue.specs.Body.{crlf}
 use Rattle.smtp_dialogue.specs.Transcript.{Spoken, waiting, is_alive}
@@ -17,7 +17,7 @@ side link unread = record { link = link; unread = unread }
 
 -- the part was gone through: all of it was sent, and its end is what was answered
 pub record WentThrough (t : Spoken) (old new : Side) (outcomes : List Outcome) (is_left_alive : Bool) : Type 0 where
-  pub sent : new.link.sent ≡ extended old.link.sent t.sent
+  pub sent : new.link.sent ≡ told_with old.link.sent t.sent
   pub outcomes_are : outcomes ≡ t.outcomes
   pub alive_is : is_left_alive ≡ is_alive t.standing
   pub left : is_left_alive ≡ true → new.unread ≡ t.rest
@@ -27,7 +27,7 @@ pub record WentThrough (t : Spoken) (old new : Side) (outcomes : List Outcome) (
 pub record IsCutAtReset (t : Spoken) (old new : Side) : Type 0 where
   pub before : List ℕ
   pub last : t.sent ≡ before ++ (codes "RSET" ++ crlf)
-  pub sent_before : TakesFront (extended old.link.sent before) new.link.sent (codes "RSET" ++ crlf)
+  pub sent_before : TakesPrefix (told_with old.link.sent before) new.link.sent (codes "RSET" ++ crlf)
 
 -- the link failed on the way: something was not sent, or a reply that was due is not whole. The outcomes are those of a
 -- fault; what was decided before RSET stays decided.
@@ -35,15 +35,15 @@ pub record IsCutShort (t : Spoken) (old new : Side) (at_fault outcomes : List Ou
   pub rose : Rose old.link.faults new.link.faults
   pub alive_is : is_left_alive ≡ false
   pub not_ended : new.link.ended ≡ false
-  pub front : TakesFront old.link.sent new.link.sent t.sent
-  pub short : (t.standing ≡ waiting) ⊎ TakesProperFront old.link.sent new.link.sent t.sent
+  pub prefix : TakesPrefix old.link.sent new.link.sent t.sent
+  pub short : (t.standing ≡ waiting) ⊎ TakesProperPrefix old.link.sent new.link.sent t.sent
   pub outcomes_are : (outcomes ≡ at_fault) ⊎ ((outcomes ≡ t.outcomes) × IsCutAtReset t old new)
 
 -- the bytes that came in the call, whatever pieces they came in, make the part of the transcript what it is
 pub record Speaks (part : List ℕ → Spoken) (old new : Side) (at_fault outcomes : List Outcome) (is_left_alive : Bool)
     : Type 0 where
   pub more : List ℕ
-  pub grows : new.link.got ≡ extended old.link.got more
+  pub grows : new.link.got ≡ told_with old.link.got more
   pub later : old.link.faults ≤ new.link.faults
   pub spoke :
       WentThrough (part (old.unread ++ more)) old new outcomes is_left_alive

@@ -160,13 +160,13 @@ before_parting ehlo messages got = followed_by (greeting ehlo got) (attempts mes
 abbrev pub transcript : List ℕ → List Message → List ℕ → Spoken
 transcript ehlo messages got = followed_by (before_parting ehlo messages got) parting
 
--- one list of bytes is the other's front
-abbrev pub IsFront : List ℕ → List ℕ → Type 0
-IsFront front whole = (rest : List ℕ) × (front ++ rest ≡ whole)
+-- one list of bytes is the other's prefix
+abbrev pub IsPrefix : List ℕ → List ℕ → Type 0
+IsPrefix prefix whole = (rest : List ℕ) × (prefix ++ rest ≡ whole)
 
--- the session is the transcript of these messages. Where a fault was counted, its sent bytes are a front of it; where
+-- the session is the transcript of these messages. Where a fault was counted, its sent bytes are a prefix of it; where
 -- none was, they are all of it, and a reply that was due and is not there was cut off by the end of the link.
 pub record IsTranscript (ehlo : List ℕ) (messages : List Message) (s : Session) : Type 0 where
-  pub front : IsFront s.sent (transcript ehlo messages s.got).sent
+  pub prefix : IsPrefix s.sent (transcript ehlo messages s.got).sent
   pub whole : s.faults ≡ 0 → s.sent ≡ (transcript ehlo messages s.got).sent
   pub ended : s.faults ≡ 0 → (transcript ehlo messages s.got).standing ≡ waiting → s.ended ≡ true

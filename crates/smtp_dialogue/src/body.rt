@@ -8,7 +8,7 @@ use crate::send::{send_all, send_three};
 use kumo_base::Failed;
 use kumo_outside::Link;
 
-/// Sends the lines of a body and the line `.`. After `Failed` a front of them was sent, and not all.
+/// Sends the lines of a body and the line `.`. After `Failed` a prefix of them was sent, and not all.
 pub(crate) fn send_body<L: Link>(link: &mut L, body: &str) -> Result<(), Failed>
     ensures opening { (L.seen link.new).opening ≡ (L.seen link.old).opening }
     ensures sends { MatchResult result

@@ -110,8 +110,8 @@ fn after_recipient<L: Link>(
 ) -> Tried
     requires { HoldsReply reader }
     ensures opening { (L.seen link.new).opening ≡ (L.seen link.old).opening }
-    ensures tries { (reply : List ℕ) → Holds reader reply → Tries (after_recipient body.now (code_of reply) (one_line_text reply))
-        (side (L.seen link.old) scratch.old)
+    ensures tries { (reply : List ℕ) → Holds reader reply → Tries (after_recipient body.now
+        (code_of reply) (one_line_text reply)) (side (L.seen link.old) scratch.old)
         (side (L.seen link.new) scratch.new) result }
 {
     if !is_positive(reader.code()) {
@@ -132,8 +132,8 @@ fn after_data<L: Link>(
 ) -> Tried
     requires { HoldsReply reader }
     ensures opening { (L.seen link.new).opening ≡ (L.seen link.old).opening }
-    ensures tries { (reply : List ℕ) → Holds reader reply → Tries (after_data body.now (code_of reply) (one_line_text reply))
-        (side (L.seen link.old) scratch.old)
+    ensures tries { (reply : List ℕ) → Holds reader reply → Tries (after_data body.now
+        (code_of reply) (one_line_text reply)) (side (L.seen link.old) scratch.old)
         (side (L.seen link.new) scratch.new) result }
 {
     if reader.code() != 354 {

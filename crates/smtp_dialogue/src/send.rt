@@ -5,7 +5,7 @@ ghost use Rattle.smtp_dialogue.specs.inside.Asking.{Sends, FailsToSend};
 use kumo_base::Failed;
 use kumo_outside::Link;
 
-/// Sends all bytes. After `Failed` a front of them was sent, and not all.
+/// Sends all bytes. After `Failed` a prefix of them was sent, and not all.
 pub(crate) fn send_all<L: Link>(link: &mut L, bytes: &[u8]) -> Result<(), Failed>
     ensures opening { (L.seen link.new).opening ≡ (L.seen link.old).opening }
     ensures sends { MatchResult result

@@ -11,7 +11,7 @@ use Rattle.smtp_reply.specs.declared.reader.ReplyReader.{ReplyReader}
 use Rattle.smtp_reply.specs.declared.reader.TheConstants.{REPLY_LIMIT}
 use Rattle.smtp_reply.specs.ReplyText.{IsReplyText, digits_of, is_printable}
 use Rattle.smtp_reply.specs.Grammar.{is_reply, is_front, lines_of, code_in, is_first_digit, is_digit, is_code, is_code_front, are_reply_lines}
-use Rattle.smtp_reply.specs.Replies.{heard, heard_from, number_of, code_of, printable_of, shown_text, shown_line, text_of_line, one_line_text}
+use Rattle.smtp_reply.specs.Replies.{heard, heard_from, number_in, code_of, printable_of, shown_text, shown_line, text_of_line, one_line_text}
 use Rattle.smtp_reply.specs.Reading.{IsWhole, Reads, Tells, Keeps, digits_in, IsProperReply}
 use Rattle.smtp_reply.proofs.HeardLemmas.{answer_by}
 use Rattle.smtp_reply.proofs.FrontLemmas.{and_both, and_is, code_front_is_front, reply_is_no_front, true_not_false}
@@ -226,8 +226,8 @@ code_all : (n : ℕ) (code : List ℕ) → 4 ≤ n → length code ≡ 3 → tak
 code_all n code l e = take_all n code (omega arith)
 
 -- the code of a whole reply
-pub whole_code : (reader : ReplyReader) (bytes : List ℕ) → IsWhole reader → Reads reader bytes → number_of (digits_in reader.said.code) ≡ code_of bytes
+pub whole_code : (reader : ReplyReader) (bytes : List ℕ) → IsWhole reader → Reads reader bytes → number_in (digits_in reader.said.code) ≡ code_of bytes
 whole_code reader bytes whole reads =
     let tells = whole_tells reader bytes whole reads in
     let long : 4 ≤ length bytes = (reader_proper reader bytes whole reads).long in
-    ap number_of (sym (code_all (length bytes) (digits_in reader.said.code) long refl) ∙ sym tells.code_is)
+    ap number_in (sym (code_all (length bytes) (digits_in reader.said.code) long refl) ∙ sym tells.code_is)

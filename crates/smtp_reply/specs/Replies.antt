@@ -28,14 +28,14 @@ unfoldable pub heard : List ℕ → Fed
 heard bytes = heard_from [] bytes
 
 -- the number of a code
-abbrev pub number_of : List ℕ → ℕ
-number_of [] = 0
-number_of (a ∷ []) = 0
-number_of (a ∷ (b ∷ [])) = 0
-number_of (a ∷ (b ∷ (c ∷ more))) = (a - 48) * 100 + (b - 48) * 10 + (c - 48)
+abbrev pub number_in : List ℕ → ℕ
+number_in [] = 0
+number_in (a ∷ []) = 0
+number_in (a ∷ (b ∷ [])) = 0
+number_in (a ∷ (b ∷ (c ∷ more))) = (a - 48) * 100 + (b - 48) * 10 + (c - 48)
 
 abbrev pub code_of : List ℕ → ℕ
-code_of reply = number_of (code_in reply)
+code_of reply = number_in (code_in reply)
 
 -- the text of a line: behind its code and the byte after it, without a carriage return at the end
 abbrev pub text_of_line : List ℕ → List ℕ

@@ -15,7 +15,8 @@ pub fn heard_stays()
 
 /// A reply goes on with each of its proper fronts.
 pub fn fronts_go_on()
-    ensures { (front : List ℕ) (b : ℕ) (more : List ℕ) → is_reply (front ++ b ∷ more) ≡ true → is_front front ≡ true }
+    ensures { (front : List ℕ) (b : ℕ) (more : List ℕ) → is_reply (front ++ b ∷ more) ≡ true
+        → is_front front ≡ true }
 {}
 
 /// Each front is the front of some reply.

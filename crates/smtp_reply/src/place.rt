@@ -92,7 +92,8 @@ impl Next {
 
 /// Reads the byte behind the code of a line.
 pub(crate) fn after_code(byte: u8) -> Next
-    ensures { (said : Said) (bytes : List ℕ) → Stands Place.AfterCode said bytes → Makes result said (bytes ++ byte ∷ []) }
+    ensures { (said : Said) (bytes : List ℕ) → Stands Place.AfterCode said bytes
+        → Makes result said (bytes ++ byte ∷ []) }
 {
     match byte {
         b'\n' => Next::Whole,
@@ -116,7 +117,8 @@ fn text_behind(goes_on: bool) -> LineText
 
 /// Reads the byte behind the code of a line and a carriage return.
 pub(crate) fn after_return(byte: u8) -> Next
-    ensures { (said : Said) (bytes : List ℕ) → Stands Place.AfterReturn said bytes → Makes result said (bytes ++ byte ∷ []) }
+    ensures { (said : Said) (bytes : List ℕ) → Stands Place.AfterReturn said bytes
+        → Makes result said (bytes ++ byte ∷ []) }
 {
     if byte == b'\n' {
         Next::Whole

@@ -5,7 +5,7 @@
 //! Nothing takes memory.
 ghost use Rattle.std.specs.Prelude.{◌≡◌, ◌≤◌, ◌<◌, ◌∷◌, ◌++◌, ℕ, List, [], length};
 ghost use Rattle.smtp_reply.specs.Reading.{Stands, Makes, digits_in, digit_at, with_digit};
-ghost use Rattle.smtp_reply.specs.Replies.{number_of};
+ghost use Rattle.smtp_reply.specs.Replies.{number_in};
 
 use crate::one_line::OneLine;
 use crate::place::{Digit, LineText, Next, Place, after_code, after_return};
@@ -25,7 +25,7 @@ pub(crate) struct Code {
 impl Code {
     /// The number that the digits write.
     pub(crate) fn number(&self) -> u16
-        ensures { result ≡ number_of (digits_in self.now) }
+        ensures { result ≡ number_in (digits_in self.now) }
     {
         u16::from(self.first.saturating_sub(b'0')) * 100
             + u16::from(self.second.saturating_sub(b'0')) * 10
@@ -131,7 +131,8 @@ impl Said {
 
     /// Reads a byte of a line's text, or the line feed behind it.
     fn read_text(&mut self, line: LineText, byte: u8) -> Next
-        ensures { (bytes : List ℕ) → Stands (Place.Text line) self.old bytes → Makes result self.new (bytes ++ byte ∷ []) }
+        ensures { (bytes : List ℕ) → Stands (Place.Text line) self.old bytes
+            → Makes result self.new (bytes ++ byte ∷ []) }
     {
         if byte != b'\n' {
             return Next::Front(Place::Text(self.text.read_text(line, byte)));

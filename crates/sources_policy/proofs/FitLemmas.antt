@@ -19,7 +19,8 @@ use Rattle.policy_core.specs.declared.sources.Pool.{Pool}
 use Rattle.policy_core.specs.Names.{is_source_name}
 use Rattle.policy_core.specs.Policy.{has_pool, are_entrants_sources, are_sources_named}
 use Rattle.policy_toml.specs.declared.fault.Fault.{Fault}
-use Rattle.policy_toml.specs.Places.{earlier, first_of, joined}
+use Rattle.policy_fault.specs.TableNames.{joined}
+use Rattle.policy_toml.specs.Places.{earlier, first_of}
 use Rattle.policy_toml.specs.Walks.{over_members, on_table, table_at, members_at, faults_unless_table}
 use Rattle.sources_policy.specs.SourcesFile.{faults_of_name, faults_in_source, faults_of_source, is_known_source, faults_if_unknown, faults_in_entrant, faults_of_entrant, entrant_of, entrant_at, faults_if_many, faults_in_pool, faults_of_pool, faults_in, count_before, has_name, put_if_new, source_of, unspecified_source, source_at, sources_of, pool_of, unspecified_pool, pool_at, pools_of, sources_in}
 

@@ -4,10 +4,10 @@ use Rattle.std.specs.List.{list_all, list_any, insert}
 use Rattle.std.specs.Ordering.{nat_cmp, is_lt}
 use Rattle.std.specs.Cmp.Lexicographic.{slice_cmp}
 use Rattle.toml.specs.Data.{Data, Members, as_table, as_integer, get_member}
-use Rattle.policy_core.specs.declared.fault.Why.{Why}
-use Rattle.policy_core.specs.declared.fault.Why.TheVariants.{BadType, BadName, BadWeight, TooMany, UnknownSource}
-use Rattle.policy_core.specs.declared.fault.PolicyFile.TheVariants as file
-use Rattle.policy_core.specs.declared.fault.Ignored.{Ignored}
+use Rattle.policy_fault.specs.declared.fault.Why.{Why}
+use Rattle.policy_fault.specs.declared.fault.Why.TheVariants.{BadType, BadName, BadWeight, TooMany, UnknownSource}
+use Rattle.policy_fault.specs.declared.fault.PolicyFile.TheVariants as file
+use Rattle.policy_fault.specs.declared.fault.Ignored.{Ignored}
 use Rattle.policy_core.specs.Names.{is_source_name}
 use Rattle.policy_core.specs.Limits.{unspecified, localhost}
 use Rattle.policy_core.specs.declared.sources.Source.{Source}
@@ -16,7 +16,8 @@ use Rattle.policy_core.specs.declared.sources.Pool.{Pool}
 use Rattle.policy_core.specs.declared.sources.Sources.{Sources}
 use Rattle.sources_policy.specs.Limits.{entrant_limit}
 use Rattle.policy_toml.specs.declared.fault.Fault.{Fault}
-use Rattle.policy_toml.specs.Places.{fault, joined, whole_table, ignored_at}
+use Rattle.policy_fault.specs.TableNames.{joined}
+use Rattle.policy_toml.specs.Places.{fault, whole_table, ignored_at}
 use Rattle.policy_toml.specs.Values.{text_in, document_in}
 use Rattle.policy_toml.specs.Walks.{over_members, on_table, is_table, table_at, members_at, faults_unless_table, faults_of_value, value_at}
 use Rattle.policy_toml.specs.Reports.{reading}

@@ -11,8 +11,9 @@ ghost use Rattle.sources_policy.specs.SourcesFile.{faults_in, faults_of_source, 
 
 use crate::values::{ehlo_at, has_many_entrants, weight_at};
 use kumo_base::Memory;
-use policy_core::{UNSPECIFIED, Why, is_source_name};
-use policy_toml::{FirstFault, WHOLE_TABLE, is_table, joined, table_at};
+use policy_core::{UNSPECIFIED, is_source_name};
+use policy_fault::{Why, joined};
+use policy_toml::{FirstFault, WHOLE_TABLE, is_table, table_at};
 use std::alloc::Global;
 use toml::{Table, Value};
 

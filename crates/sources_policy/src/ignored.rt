@@ -8,8 +8,8 @@ ghost use Rattle.policy_toml.specs.Walks.{over_members};
 ghost use Rattle.sources_policy.specs.SourcesFile.{ignored_in, ignored_at_top, ignored_but, ignored_of_source, ignored_of_pool, ignored_of_entrant};
 
 use kumo_base::Memory;
-use policy_core::{Ignored, PolicyFile};
-use policy_toml::{joined, note_ignored, table_at};
+use policy_fault::{Ignored, PolicyFile, joined};
+use policy_toml::{note_ignored, table_at};
 use std::alloc::Global;
 use toml::{Table, Value};
 

@@ -5,7 +5,7 @@
 #![tactic(auto)]
 
 ghost use Rattle.std.specs.Prelude.{◌≡◌, IfOk, IfErr, Ok, IsTrue};
-ghost use Rattle.policy_core.specs.declared.fault.PolicyFile.TheVariants as file;
+ghost use Rattle.policy_fault.specs.declared.fault.PolicyFile.TheVariants as file;
 ghost use Rattle.policy_core.specs.Limits.{unspecified};
 ghost use Rattle.policy_core.specs.Policy.{has_pool, are_entrants_sources, are_sources_named};
 ghost use Rattle.policy_toml.specs.Reports.{IsRefusal};
@@ -21,7 +21,8 @@ mod values;
 use crate::faults::faults_in;
 use crate::ignored::ignored_in;
 use crate::sources::sources_in;
-use policy_core::{Ignored, PolicyFault, PolicyFile, Sources};
+use policy_core::Sources;
+use policy_fault::{Ignored, PolicyFault, PolicyFile};
 use policy_toml::open_document;
 use std::alloc::Global;
 

@@ -4,7 +4,7 @@ ghost use Rattle.std.specs.List.{list_all};
 ghost use Rattle.toml.specs.View.{table_view, view};
 ghost use Rattle.sources_policy.specs.SourcesFile.{ehlo_at, is_ehlo, is_ehlo_byte, weight_at, entrants_of, has_more_than};
 
-use policy_core::Why;
+use policy_fault::Why;
 use policy_toml::text_at;
 use toml::{Table, Value};
 
@@ -19,7 +19,8 @@ const WEIGHT_LIMIT: i64 = 1_000;
 
 /// The argument of EHLO that a value is: printable, without blanks.
 pub(crate) fn ehlo_at(value: &Value) -> Result<&str, Why>
-    ensures { MatchResult result (λ text. ehlo_at (view value.now) ≡ Ok text.now) (λ why. ehlo_at (view value.now) ≡ Err why) }
+    ensures { MatchResult result (λ text. ehlo_at (view value.now) ≡ Ok text.now)
+        (λ why. ehlo_at (view value.now) ≡ Err why) }
 {
     let text = match text_at(value) {
         Ok(text) => text,

@@ -71,14 +71,16 @@ impl Bucket {
     pub fn take(&mut self, t: u64)
         requires { IsAdmitted self.old t }
         ensures throttle { self.new.throttle ≡ self.old.throttle }
-        ensures stands { (moments : List ℕ) → StandsFor self.old moments → StandsFor self.new (moments ++ clamped t ∷ []) }
+        ensures stands { (moments : List ℕ) → StandsFor self.old moments
+            → StandsFor self.new (moments ++ clamped t ∷ []) }
     {
         self.arrival = reach_with(&self.spec, self.arrival, t);
     }
 
     /// The least moment from t to `LAST_MOMENT` that is admitted, and `LAST_MOMENT` where none is.
     pub fn next(&self, t: u64) -> u64
-        ensures exact { (moments : List ℕ) → StandsFor self.now moments → result ≡ least_admitted self.now.throttle moments t }
+        ensures exact { (moments : List ℕ) → StandsFor self.now moments
+            → result ≡ least_admitted self.now.throttle moments t }
     {
         let least = first_with_room(&self.spec, self.arrival);
         least.max(t.min(LAST_MOMENT))

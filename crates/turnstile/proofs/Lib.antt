@@ -1,4 +1,3 @@
 mod OneView
 mod TurnMoves
 mod Seats
-mod Marks

@@ -10,12 +10,9 @@ use native.Mathlib.Decide.{ℕ_discrete}
 use lib.ListN.{get_elem?}
 use Rattle.atomic_table.specs.Table.{State}
 use Rattle.atomic_table.proofs.Lists.{at_set, set_here, set_else}
-use Rattle.turnstile.specs.declared.chronicle.Note.{Note}
-use Rattle.turnstile.specs.declared.chronicle.Shown.{Shown}
-use Rattle.turnstile.specs.declared.view.View.{View}
-use Rattle.turnstile.specs.Entries.{Begins, AtMost, own}
+use Rattle.turnstile.specs.Entries.{Begins, AtMost, own_entries, Note, Shown}
 use Rattle.turnstile.specs.Rule.{waits, waiting, IsKnown, Knows, IsSpent, IsSeated, Apart, emptied, IsIn, IsTaken, Slot, Kept}
-use Rattle.turnstile.specs.Views.{IsTold, untold, whose, ended}
+use Rattle.turnstile.specs.Views.{IsTold, untold, whose, ended, View}
 
 pub at_below : {A : Type 0} (l : List A) (i : ℕ) (a : A) → get_elem? l i ≡ some a → i < length l
 at_below [] i a e = absurd (some-ne-none a (sym e))
@@ -23,11 +20,8 @@ at_below (x ∷ xs) zero a e = omega arith
 at_below (x ∷ xs) (suc i) a e = let h = at_below xs i a e in omega arith
 
 -- a table of two words has the first and the second
-pub has_first : {n : ℕ} → n ≡ 2 → 0 < n
-has_first two = subst (λ k. 0 < k) (sym two) (omega arith)
-
-pub has_second : {n : ℕ} → n ≡ 2 → 1 < n
-has_second two = subst (λ k. 1 < k) (sym two) (omega arith)
+pub has_words : {n : ℕ} → n ≡ 2 → (0 < n) × (1 < n)
+has_words two = subst (λ k. (0 < k) × (1 < k)) (sym two) (omega arith, omega arith)
 
 begins_on : (a b c : List Note) → Begins a b → Begins b c → Begins a c
 begins_on a b c x y = (x.0 ++ y.0, y.1 ∙ ap (λ z. z ++ y.0) x.1 ∙ append_assoc a x.0 y.0)
@@ -48,10 +42,10 @@ waiting_few (x ∷ xs) = let h = waiting_few xs in let o = waits_one x.ticket in
 pub by_view : (P : ℕ → View → Type 0) (vs : List View) (id : ℕ) (w : View) → P id w → ((j : ℕ) (u : View) → j ≢ id → get_elem? vs j ≡ some u → P j u) → (j : ℕ) (u : View) → get_elem? (set vs id w) j ≡ some u → P j u
 by_view P vs id w mine others j u e = ⊎_elim (λ (t : (j ≡ id) × (w ≡ u)). subst (λ (x : ℕ × View). P x.0 x.1) (λ i. (sym t.0 i, t.1 i)) mine) (λ (t : (j ≢ id) × (get_elem? vs j ≡ some u)). others j u t.0 t.1) (at_set vs id j w u e)
 
-pub own_front : (w : ℕ) (a b : List Note) → Begins a b → own w b ≡ [] → own w a ≡ []
+pub own_front : (w : ℕ) (a b : List Note) → Begins a b → own_entries w b ≡ [] → own_entries w a ≡ []
 own_front w a b x e =
-    let is = ap length (sym (filter-append (λ n. eqb n.by w) a x.0) ∙ ap (own w) (sym x.1) ∙ e) in
-    let long = length-append (own w a) (own w x.0) in nil_from_length (own w a) (omega arith)
+    let is = ap length (sym (filter-append (λ n. eqb n.by w) a x.0) ∙ ap (own_entries w) (sym x.1) ∙ e) in
+    let long = length-append (own_entries w a) (own_entries w x.0) in nil_from_length (own_entries w a) (omega arith)
 
 pub only_one : (x w : ℕ) → Contains (x ∷ []) w → w ≡ x
 only_one x w (zero, low, e) = sym e
@@ -77,7 +71,7 @@ pub record Grows (id : ℕ) (log log' : Shown) : Type 0 where
   pub stem : log'.stem ≡ log.stem
   pub seen : Begins log.entries log'.entries
   pub counts : AtMost log.counts log'.counts
-  pub others : (w : ℕ) → w ≢ id → own w log'.entries ≡ own w log.entries
+  pub others : (w : ℕ) → w ≢ id → own_entries w log'.entries ≡ own_entries w log.entries
 
 same_log : (id : ℕ) (log : Shown) → Grows id log log
 same_log id log = record { stem = refl; seen = ([], sym (append-nil log.entries)); counts = (omega arith, omega arith, omega arith, omega arith); others = λ w n. refl }
@@ -87,14 +81,7 @@ no_news x = ((x.entries, refl), λ w c. absurd (omega (arith, c.1)))
 
 -- a pass knows what it has just seen
 pub knows_seen : (x : Shown) (numbers : List ℕ) → IsKnown x numbers x untold untold
-knows_seen x numbers = record {
-  stem = refl;
-  begins = ([], sym (append-nil x.entries));
-  counts = (omega arith, omega arith, omega arith, omega arith);
-  own = λ w c. refl;
-  left = no_news x;
-  right = no_news x;
-}
+knows_seen x numbers = record { stem = refl; begins = ([], sym (append-nil x.entries)); counts = (omega arith, omega arith, omega arith, omega arith); own = λ w c. refl; left = no_news x; right = no_news x }
 
 knows_on : (id : ℕ) (log log' : Shown) (u : View) → Grows id log log' → Knows log u → ((w : ℕ) → Contains (whose u) w → w ≢ id) → Knows log' u
 knows_on id log log' u g k free = record {
@@ -218,14 +205,7 @@ module _ {T : Type 0} (shown : T → Shown) (s : State (Option T) View) (r : Kep
           (omega arith)
           (let count = waiting_set s.views id v ended at in let none_waits = ap waits idle in let was = r.out in omega arith)
           (slot_set ended (sym free) (λ x e. absurd (some_not_none x v.took free e)))
-          record {
-            number = λ e. absurd (true≢false e);
-            ticket = λ t e. absurd (none-some t e);
-            took = λ y e. absurd (none-some y e);
-            knows = λ e. absurd (true≢false e);
-            spent = λ e. (refl, refl);
-            met = λ m e c. absurd (true≢false e);
-          }
+          record { number = λ e. absurd (true≢false e); ticket = λ t e. absurd (none-some t e); took = λ y e. absurd (none-some y e); knows = λ e. absurd (true≢false e); spent = λ e. (refl, refl); met = λ m e c. absurd (true≢false e) }
           (λ e. absurd (later e))
           (λ t e. absurd (none-some t e)),
       refl,

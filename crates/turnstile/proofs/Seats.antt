@@ -1,21 +1,21 @@
 -- Making, splitting and joining passes keeps the rule, and what closing finds.
-use Rattle.std.proofs.Common.{◌≡◌, ◌≢◌, ℕ, zero, suc, ◌+◌, ◌^◌, ◌<◌, ◌≤◌, eqb, List, [], ◌∷◌, ◌++◌, length, set, sym, refl, ap, ◌∙◌, subst, ⊎_elim, inl, inr, arith, Option, Some, None, Bool, true, false, true≢false, length-set, append-nil, Contains, lt_of_not-le, pos_of_ne-zero, cond, ltb, max, length-append, ltb-true, ltb-false}
+use Rattle.std.proofs.Common.{◌≡◌, ◌≢◌, ℕ, zero, suc, ◌+◌, ◌^◌, ◌<◌, ◌≤◌, eqb, List, [], ◌∷◌, ◌++◌, length, set, sym, refl, ap, ◌∙◌, subst, ⊎_elim, inl, inr, arith, Option, Some, None, Bool, true, false, true≢false, length-set, append-nil, Contains, lt_of_not-le, pos_of_ne-zero, cond, ltb, length-append, ltb-true, ltb-false, take, ◌-◌}
+use Rattle.std.specs.Option.{IsSome, is_some}
 use mathlib.Core.Option.{some, some-ne-none, some-injective}
 use native.Mathlib.Decide.{ℕ_discrete, dec_le}
 use lib.ListN.{get_elem?}
-use Rattle.atomic_table.specs.Table.{State, Splits, Joins, opening, Final, Seen}
+use Rattle.atomic_table.specs.Table.{State, Me, Splits, Joins, opening, Final, Seen}
 use Rattle.atomic_table.proofs.Lists.{set_here, set_else, at_longer}
+use Rattle.std.proofs.Math.Seq.{take-append_seam, take-append-add}
+use Rattle.std.proofs.Math.Nat.{max-le}
 use Rattle.std.proofs.lemmas.List.{set_comm, nil_from_length}
 use Rattle.std.proofs.lemmas.Option.{none-some}
 use mathlib.Core.Logic.{dite}
-use Rattle.turnstile.specs.declared.chronicle.Note.{Note}
-use Rattle.turnstile.specs.declared.chronicle.Shown.{Shown}
-use Rattle.turnstile.specs.declared.view.View.{View}
-use Rattle.turnstile.specs.Entries.{Begins, own}
+use Rattle.turnstile.specs.Entries.{Begins, own_entries, Note, Shown}
 use Rattle.turnstile.specs.Rule.{waits, waiting, Knows, IsSpent, IsSeated, Apart, IsIn, IsTaken, Kept}
-use Rattle.turnstile.specs.Views.{newcomer, gave, fresh, joined, ended, AllMet, is_there, whose}
+use Rattle.turnstile.specs.Views.{newcomer, with_number_given, fresh, joined, ended, AllMet, is_there, whose, View}
 use Rattle.std.proofs.lemmas.List.Elements.{filter-append, Contains-append_cases}
-use Rattle.turnstile.proofs.OneView.{at_below, waiting_set, by_view, no_news, own_front, only_one, split_first, in_first, in_rest, some_not_none, knows_seen, given_all, slot_set, apart_set, still_spent, seated_in, replaced_in_turn, retired}
+use Rattle.turnstile.proofs.OneView.{at_below, waiting_set, by_view, no_news, own_front, only_one, split_first, in_first, in_rest, some_not_none, some_same, knows_seen, given_all, slot_set, apart_set, still_spent, seated_in, replaced_in_turn, retired}
 use Rattle.turnstile.proofs.TurnMoves.{own_apart}
 
 -- what holds of the old views and of the last holds of all
@@ -30,41 +30,26 @@ waiting_end [] w = omega arith
 waiting_end (x ∷ xs) w = let h = waiting_end xs w in omega arith
 
 -- what stands between two histories with the same entries of a pass has no more of it
-own_between : (w : ℕ) (a b c : List Note) → Begins a b → Begins b c → own w c ≡ own w a → own w c ≡ own w b
+own_between : (w : ℕ) (a b c : List Note) → Begins a b → Begins b c → own_entries w c ≡ own_entries w a → own_entries w c ≡ own_entries w b
 own_between w a b c x y e =
-    let b_is : own w b ≡ own w a ++ own w x.0 = ap (own w) x.1 ∙ filter-append (λ n. eqb n.by w) a x.0 in
-    let c_is : own w c ≡ own w b ++ own w y.0 = ap (own w) y.1 ∙ filter-append (λ n. eqb n.by w) b y.0 in
+    let b_is : own_entries w b ≡ own_entries w a ++ own_entries w x.0 = ap (own_entries w) x.1 ∙ filter-append (λ n. eqb n.by w) a x.0 in
+    let c_is : own_entries w c ≡ own_entries w b ++ own_entries w y.0 = ap (own_entries w) y.1 ∙ filter-append (λ n. eqb n.by w) b y.0 in
     let lb = ap length b_is in let lc = ap length c_is in let le = ap length e in
-    let pb = length-append (own w a) (own w x.0) in let pc = length-append (own w b) (own w y.0) in
-    let none_more : own w y.0 ≡ [] = nil_from_length (own w y.0) (omega arith) in c_is ∙ ap (λ z. own w b ++ z) none_more ∙ append-nil (own w b)
+    let pb = length-append (own_entries w a) (own_entries w x.0) in let pc = length-append (own_entries w b) (own_entries w y.0) in
+    let none_more : own_entries w y.0 ≡ [] = nil_from_length (own_entries w y.0) (omega arith) in c_is ∙ ap (λ z. own_entries w b ++ z) none_more ∙ append-nil (own_entries w b)
 
-abbrev tail_of : List Note → List Note
-tail_of [] = []
-tail_of (x ∷ xs) = xs
-
-abbrev head_of : Note → List Note → Note
-head_of d [] = d
-head_of d (x ∷ xs) = x
-
--- two beginnings of one history: the shorter begins the longer
-two_fronts : (a b x y : List Note) → a ++ x ≡ b ++ y → length a ≤ length b → Begins a b
-two_fronts [] b x y e h = (b, refl)
-two_fronts (m ∷ a) [] x y e h = absurd (omega arith)
-two_fronts (m ∷ a) (n ∷ b) x y e h = let r = two_fronts a b x y (ap tail_of e) (omega arith) in (r.0, λ i. ap (head_of m) (sym e) i ∷ r.1 i)
-
+-- of two beginnings of one history the shorter begins the longer
 fronts : (a b c : List Note) → Begins a c → Begins b c → length a ≤ length b → Begins a b
-fronts a b c x y h = two_fronts a b x.0 y.0 (sym x.1 ∙ y.1) h
+fronts a b c x y h = let n = length b - length a in let long : length b ≡ length a + n = omega arith in
+    (take n x.0, sym (take-append_seam b y.0) ∙ ap (take (length b)) (sym y.1 ∙ x.1) ∙ ap (λ k. take k (a ++ x.0)) long ∙ take-append-add a x.0 n)
 
 -- the longer of two beginnings is one, and begins with both
 both_in : (a b c : List Note) → Begins a c → Begins b c → (t : Bool) → ltb (length a) (length b) ≡ t → Begins (cond t b a) c × Begins a (cond t b a) × Begins b (cond t b a)
 both_in a b c x y true e = (y, fronts a b c x y (let h = ltb-true (length a) (length b) e in omega arith), ([], sym (append-nil b)))
 both_in a b c x y false e = (x, ([], sym (append-nil a)), fronts b a c y x (ltb-false (length a) (length b) e))
 
-own_same : (w : ℕ) (a b c : List Note) → Begins a b → Begins b c → own w c ≡ own w a → own w b ≡ own w a
+own_same : (w : ℕ) (a b c : List Note) → Begins a b → Begins b c → own_entries w c ≡ own_entries w a → own_entries w b ≡ own_entries w a
 own_same w a b c x y e = sym (own_between w a b c x y e) ∙ e
-
-most : (a b c : ℕ) → a ≤ c → b ≤ c → max a b ≤ c
-most a b c x y = omega (arith, x, y)
 
 -- what two passes know is known to the one that met the other
 both_know : (log : Shown) (v w : View) → Knows log v → Knows log w → Knows log (joined v w)
@@ -75,7 +60,7 @@ both_know log v w kv kw =
     let h = both_in a b log.entries kv.begins kw.begins (ltb (length a) (length b)) refl in record {
       stem = kv.stem;
       begins = h.0;
-      counts = (most _ _ _ kv.counts.0 kw.counts.0, most _ _ _ kv.counts.1 kw.counts.1, most _ _ _ kv.counts.2 kw.counts.2, most _ _ _ kv.counts.3 kw.counts.3);
+      counts = (max-le kv.counts.0 kw.counts.0, max-le kv.counts.1 kw.counts.1, max-le kv.counts.2 kw.counts.2, max-le kv.counts.3 kw.counts.3);
       own = λ m c. ⊎_elim (λ n. own_between m a seen log.entries h.1 h.0 (kv.own m n)) (λ n. own_between m b seen log.entries h.2 h.0 (kw.own m n)) (Contains-append_cases (whose v) (whose w) m c);
       left = (h.1, λ m c. own_same m a seen log.entries h.1 h.0 (kv.own m c));
       right = (h.2, λ m c. own_same m b seen log.entries h.2 h.0 (kw.own m c));
@@ -83,17 +68,10 @@ both_know log v w kv kw =
 
 -- the seat of a pass that has just come
 newly : (next turn : ℕ) (log : Shown) (views : List View) (i : ℕ) (x : Shown) (g : ℕ) → Knows log (record (newcomer i x) { given = g }) → IsSeated next turn log views i (record (newcomer i x) { given = g })
-newly next turn log views i x g k = record {
-  number = λ _. refl;
-  ticket = λ t e. absurd (none-some t e);
-  took = λ y e. absurd (none-some y e);
-  knows = λ _. k;
-  spent = λ _. (refl, refl);
-  met = λ w _ c. absurd (omega (arith, c.1));
-}
+newly next turn log views i x g k = record { number = λ _. refl; ticket = λ t e. absurd (none-some t e); took = λ y e. absurd (none-some y e); knows = λ _. k; spent = λ _. (refl, refl); met = λ w _ c. absurd (omega (arith, c.1)) }
 
 -- a table that has just been made keeps the rule
-pub opens : {T : Type 0} (shown : T → Shown) (x : T) → own 0 (shown x).entries ≡ (shown x).entries → Kept shown (opening (0 ∷ 0 ∷ []) (Some x ∷ []) (newcomer 0 (shown x)))
+pub opens : {T : Type 0} (shown : T → Shown) (x : T) → own_entries 0 (shown x).entries ≡ (shown x).entries → Kept shown (opening (0 ∷ 0 ∷ []) (Some x ∷ []) (newcomer 0 (shown x)))
 opens shown x by = record {
   next = 0;
   turn = 0;
@@ -104,7 +82,7 @@ opens shown x by = record {
   slot = inl (x, refl, refl, only (λ _ v. v.took ≡ None) refl);
   each = only (IsSeated 0 0 (shown x) (first ∷ [])) (newly 0 0 (shown x) (first ∷ []) 0 (shown x) 1 (knows_seen (shown x) (0 ∷ [])));
   apart = λ i j t v w a b tv tw. absurd (some_not_none t v.ticket (only (λ _ v. v.ticket ≡ None) refl i v a) tv);
-  unborn = λ w high. ap (own w) (sym by) ∙ own_apart 0 w (shown x).entries (λ e. let h = high in omega arith);
+  unborn = λ w high. ap (own_entries w) (sym by) ∙ own_apart 0 w (shown x).entries (λ e. let h = high in omega arith);
   head = (first, refl, refl, refl);
 }
   where
@@ -115,32 +93,32 @@ opens shown x by = record {
     only P h = by_end P [] first h (λ j u e. absurd (some-ne-none u (sym e)))
 
 module _ {T : Type 0} (shown : T → Shown) where
-  pub splits : (id : ℕ) (v : View) → v.number ≡ 0 → v.spent ≡ false → v.given + 1 < 2 ^ 32 → Splits (Kept shown) id v (gave v) (fresh v)
+  pub splits : (id : ℕ) (v : View) → v.number ≡ 0 → v.spent ≡ false → v.given + 1 < 2 ^ 32 → Splits (Kept shown) id v (with_number_given v) (fresh v)
   splits id v first live room s r at = record {
     next = r.next;
     turn = r.turn;
     log = r.log;
     words = r.words;
-    out = let count = waiting_set s.views id v (gave v) at in let waits_all = waiting_end now (fresh v) in let was = r.out in omega arith;
+    out = let count = waiting_set s.views id v (with_number_given v) at in let waits_all = waiting_end now (fresh v) in let was = r.out in omega arith;
     few = let l = long in let n = given_is in omega arith;
     slot = ⊎_elim
         (λ (h : IsIn shown r.log s.homes now). inl (h.0, h.1, h.2, by_end (λ _ u. u.took ≡ None) now (fresh v) refl h.3))
         (λ (h : IsTaken shown r.log s.homes now). inr (h.0, h.1, at_longer now (fresh v ∷ []) h.0 h.1 h.2, h.3, h.4))
-        (slot_set shown s r id v at (gave v) refl (λ x e. refl));
+        (slot_set shown s r id v at (with_number_given v) refl (λ x e. refl));
     each = by_end (IsSeated r.next r.turn r.log all) now (fresh v)
         (subst (λ i. IsSeated r.next r.turn r.log all i (fresh v)) (given_is ∙ sym size) (newly r.next r.turn r.log all v.given v.seen 0 born))
-        (by_view (IsSeated r.next r.turn r.log all) s.views id (gave v)
+        (by_view (IsSeated r.next r.turn r.log all) s.views id (with_number_given v)
         record { number = me.number; ticket = me.ticket; took = me.took; knows = me.knows; spent = me.spent; met = λ w alive c. later w (me.met w alive c) }
         (λ j u _ here. seated_in s.views all later (r.each j u here)));
     apart = λ i j t x y atx aty tx ty. by_end (λ i x. x.ticket ≡ Some t → i ≡ j) now (fresh v) (λ e. absurd (none-some t e))
         (λ i x herex tx. by_end (λ j y. y.ticket ≡ Some t → i ≡ j) now (fresh v) (λ e. absurd (none-some t e)) (λ j y herey ty. apart_now i j t x y herex herey tx ty) j y aty ty)
         i x atx tx;
     unborn = λ w high. r.unborn w (let l = long in omega arith);
-    head = (gave v, at_longer now (fresh v ∷ []) 0 (gave v) (ap (get_elem? now) (sym id_is) ∙ set_here s.views id (gave v) (at_below s.views id v at)), (let l = long in let n = given_is in omega arith), live);
+    head = (with_number_given v, at_longer now (fresh v ∷ []) 0 (with_number_given v) (ap (get_elem? now) (sym id_is) ∙ set_here s.views id (with_number_given v) (at_below s.views id v at)), (let l = long in let n = given_is in omega arith), live);
   }
     where
       now : List View
-      now = set s.views id (gave v)
+      now = set s.views id (with_number_given v)
 
       all : List View
       all = now ++ fresh v ∷ []
@@ -155,16 +133,16 @@ module _ {T : Type 0} (shown : T → Shown) where
       given_is = given_all shown s r id v at id_is
 
       size : length now ≡ length s.views
-      size = length-set s.views id (gave v)
+      size = length-set s.views id (with_number_given v)
 
       long : length all ≡ length s.views + 1
       long = length-append now (fresh v ∷ []) ∙ ap (λ n. n + 1) size
 
       later : (m : ℕ) → IsSpent s.views m → IsSpent all m
-      later m x = let y = still_spent shown s r id v at live (gave v) m x in (y.0, at_longer now (fresh v ∷ []) m y.0 y.1, y.2)
+      later m x = let y = still_spent shown s r id v at live (with_number_given v) m x in (y.0, at_longer now (fresh v ∷ []) m y.0 y.1, y.2)
 
       apart_now : Apart now
-      apart_now = apart_set shown s r id v at (gave v) (λ j t u ne here e mine. ne (r.apart j id t u v here at e mine))
+      apart_now = apart_set shown s r id v at (with_number_given v) (λ j t u ne here e mine. ne (r.apart j id t u v here at e mine))
 
       born : Knows r.log (fresh v)
       born = let k = me.knows live in record {
@@ -177,15 +155,17 @@ module _ {T : Type 0} (shown : T → Shown) where
       }
 
   -- what closing finds in the slot
-  pub found : (id : ℕ) (v : View) (words : List ℕ) (slots : List (Option T)) (slot : Option T) → Final (Seen (Kept shown) id v) words slots
+  pub found : (id : ℕ) (m : Me (Option T) View) (v : View) (words : List ℕ) (slots : List (Option T)) (slot : Option T) → m ≡ (v, []) → Final (Seen (Kept shown) id m.0) words slots
       → v.number ≡ 0 → v.spent ≡ false → v.took ≡ None → AllMet v → get_elem? slots 0 ≡ some slot
-      → (x : T) × (slot ≡ Some x) × Knows (shown x) v × ((w : ℕ) → ¬ Contains (whose v) w → own w (shown x).entries ≡ [])
-  found id v words slots slot f first live free met there = ⊎_elim
-      (λ (h : IsIn shown r.log s.homes s.views). (
-        h.0,
-        some-injective slot (Some h.0) (sym there ∙ f.4 0 (Some h.0) (ap (λ hs. get_elem? hs 0) h.1)),
-        subst (λ z. Knows z v) (sym h.2) ((r.each id v at).knows live),
-        λ w un. ap (λ (z : Shown). own w z.entries) h.2 ∙ r.unborn w (dite (dec_le (length s.views) w) (λ d. d) (λ d. absurd (un (all_known w (lt_of_not-le d))))),
+      → IsSome slot × ((x : T) → slot ≡ Some x → Knows (shown x) v × ((w : ℕ) → ¬ Contains (whose v) w → own_entries w (shown x).entries ≡ []))
+  found id m v words slots slot is f first live free met there = ⊎_elim
+      (λ (h : IsIn shown r.log s.homes s.views).
+      let has = some-injective slot (Some h.0) (sym there ∙ f.4 0 (Some h.0) (ap (λ hs. get_elem? hs 0) h.1)) in (
+        ap is_some has,
+        λ x is. let same = ap shown (some_same x h.0 slot is has) ∙ h.2 in (
+          subst (λ z. Knows z v) (sym same) ((r.each id v at).knows live),
+          λ w un. ap (λ (z : Shown). own_entries w z.entries) same ∙ r.unborn w (dite (dec_le (length s.views) w) (λ d. d) (λ d. absurd (un (all_known w (lt_of_not-le d))))),
+        ),
       ))
       (λ (h : IsTaken shown r.log s.homes s.views). absurd (nobody_has h.0 h.1 h.2 h.3 (ℕ_discrete h.0 id)))
       r.slot
@@ -197,7 +177,7 @@ module _ {T : Type 0} (shown : T → Shown) where
       r = f.1.0
 
       at : get_elem? s.views id ≡ some v
-      at = f.1.1
+      at = f.1.1 ∙ ap (λ m. some m.0) is
 
       id_is : id ≡ 0
       id_is = sym ((r.each id v at).number live) ∙ first

@@ -8,13 +8,11 @@ use native.Mathlib.Decide.{ℕ_discrete}
 use lib.ListN.{get_elem?}
 use Rattle.atomic_table.specs.Table.{State, Me, Act, keeps, takes, gives, stepped, homes_after, carried_after, Valid, Allows}
 use Rattle.atomic_table.proofs.Lists.{set_here, set_again, one_turn}
-use Rattle.turnstile.specs.declared.chronicle.Note.{Note}
-use Rattle.turnstile.specs.declared.chronicle.Shown.{Shown}
-use Rattle.turnstile.specs.declared.view.View.{View}
-use Rattle.turnstile.specs.Entries.{own, Follows}
+use Rattle.turnstile.specs.Entries.{own_entries, Follows, Note, Shown}
 use Rattle.turnstile.specs.Rule.{waits, Knows, emptied, IsIn, IsTaken, Kept}
 use Rattle.turnstile.specs.inside.Steps.{drew, looked, passed, laid, fetched, recalled}
-use Rattle.turnstile.specs.Views.{left_with, whose}
+use Rattle.turnstile.specs.Views.{left_with, whose, View}
+use Rattle.std.proofs.lemmas.Bool.Decides.{eqb_tells}
 use Rattle.std.proofs.Math.Nat.{suc-mod}
 use Rattle.std.proofs.lemmas.List.Elements.{filter-append}
 use Rattle.turnstile.proofs.OneView.{at_below, waiting_set, waiting_few, by_view, some_not_none, some_same, Grows, knows_seen, given_all, holder, slot_set, replaced, replaced_in_turn, own_front}
@@ -26,31 +24,32 @@ none_else (Some x) h = absurd (h x refl)
 pub next_mod : (n : ℕ) → (n % 2 ^ 64 + 1) % 2 ^ 64 ≡ (n + 1) % 2 ^ 64
 next_mod n = let e : n + 1 ≡ suc n = omega arith in let f : n % 2 ^ 64 + 1 ≡ suc (n % 2 ^ 64) = omega arith in ap (λ k. k % 2 ^ 64) f ∙ sym (suc-mod n (2 ^ 64)) ∙ ap (λ k. k % 2 ^ 64) (sym e)
 
-own_step : (i w : ℕ) (e : Note) (es : List Note) → w ≢ i → own w (own i es) ≡ [] → (b : Bool) → eqb e.by i ≡ b → own w (cond b (e ∷ own i es) (own i es)) ≡ []
-own_step i w e es ne h false is = h
-own_step i w e es ne h true is = dite (ℕ_discrete e.by w) (λ same. absurd (ne (sym same ∙ is_by))) (λ apart. ap (λ b. cond b (e ∷ own w (own i es)) (own w (own i es))) (ne_eqb e.by w apart) ∙ h)
-  where
-    is_by : e.by ≡ i
-    is_by = dite (ℕ_discrete e.by i) (λ same. same) (λ apart. absurd (true≢false (sym is ∙ ne_eqb e.by i apart)))
-
-pub own_apart : (i w : ℕ) (es : List Note) → w ≢ i → own w (own i es) ≡ []
+pub own_apart : (i w : ℕ) (es : List Note) → w ≢ i → own_entries w (own_entries i es) ≡ []
 own_apart i w [] ne = refl
-own_apart i w (e ∷ es) ne = own_step i w e es ne (own_apart i w es ne) (eqb e.by i) refl
+own_apart i w (e ∷ es) ne = let h = own_apart i w es ne in ⊎_elim
+    (λ (t : (eqb e.by i ≡ true) × (e.by ≡ i)). ap (λ b. own_entries w (cond b (e ∷ own_entries i es) (own_entries i es))) t.0 ∙ ap (λ b. cond b (e ∷ own_entries w (own_entries i es)) (own_entries w (own_entries i es))) (ne_eqb e.by w (λ same. ne (sym same ∙ t.1))) ∙ h)
+    (λ (f : (eqb e.by i ≡ false) × (e.by ≢ i)). ap (λ b. own_entries w (cond b (e ∷ own_entries i es) (own_entries i es))) f.0 ∙ h)
+    (eqb_tells e.by i)
 
 abbrev first_or : {T : Type 0} → Option T → List (ℕ × Option T) → Option T
 first_or d [] = d
 first_or d (c ∷ cs) = c.1
 
 -- the value may go home with what the turn added
-grown : (w id : ℕ) (x y : Shown) → w ≡ id → Follows w x y → Grows id x y
+pub grown : (w id : ℕ) (x y : Shown) → w ≡ id → Follows w x y → Grows id x y
 grown w id x y number f = record {
   stem = f.stem;
   seen = (f.more, f.entries);
   counts = f.counts;
-  others = λ u ne. ap (own u) f.entries ∙ filter-append (λ e. eqb e.by u) x.entries f.more
-      ∙ ap (λ z. own u x.entries ++ z) (ap (own u) (sym f.by) ∙ own_apart w u f.more (λ e. ne (e ∙ number)))
-      ∙ append-nil (own u x.entries);
+  others = λ u ne. ap (own_entries u) f.entries ∙ filter-append (λ e. eqb e.by u) x.entries f.more
+      ∙ ap (λ z. own_entries u x.entries ++ z) (ap (own_entries u) (sym f.by) ∙ own_apart w u f.more (λ e. ne (e ∙ number)))
+      ∙ append-nil (own_entries u x.entries);
 }
+
+-- what a step asks, of a seat of which more is known
+pub at_seat : {T : Type 0} (shown : T → Shown) {slots id i : ℕ} (f : ℕ → ℕ) {m n : Me (Option T) View} (told : Me (Option T) View → ℕ → Me (Option T) View → Type 0) → m ≡ n
+    → Allows (Kept shown) slots id n i f (told n) → Allows (Kept shown) slots id m i f (told m)
+at_seat shown {slots} {id} {i} f told is = subst (λ m. Allows (Kept shown) slots id m i f (told m)) (sym is)
 
 module _ {T : Type 0} (shown : T → Shown) (slots id : ℕ) (me : Me (Option T) View) where
   pub draws : me.0.ticket ≡ None → me.0.took ≡ None → me.0.spent ≡ false → Allows (Kept shown) slots id me 0 (λ n. (n + 1) % 2 ^ 64) (drew shown me)
@@ -68,14 +67,7 @@ module _ {T : Type 0} (shown : T → Shown) (slots id : ℕ) (me : Me (Option T)
             (omega arith)
             (omega arith)
             (slot_set shown s r id me.0 at w refl (λ x e. refl))
-            record {
-              number = seat.number;
-              ticket = λ t e. let same = same_Some r.next t e in (omega arith, omega arith);
-              took = λ x e. absurd (some_not_none x me.0.took free e);
-              knows = seat.knows;
-              spent = λ e. absurd (true≢false (sym e ∙ live));
-              met = seat.met;
-            }
+            record { number = seat.number; ticket = λ t e. let same = same_Some r.next t e in (omega arith, omega arith); took = λ x e. absurd (some_not_none x me.0.took free e); knows = seat.knows; spent = λ e. absurd (true≢false (sym e ∙ live)); met = seat.met }
             (λ _. (refl, live))
             (λ t e. let same = same_Some r.next t e in inr (omega arith)),
         (r.next, ap (λ ws. slice_index ws 0) r.words, refl),
@@ -173,14 +165,7 @@ module _ {T : Type 0} (shown : T → Shown) (slots id : ℕ) (me : Me (Option T)
                 (omega arith)
                 (omega arith)
                 (inr (id, w, set_here s.views id w (at_below s.views id me.0 at), ap Some is, ap (λ hs. slice_set hs 0 none) homes))
-                record {
-                  number = seat.number;
-                  ticket = seat.ticket;
-                  took = λ x e. (ticket ∙ ap Some (sym same), sym (same_Some (shown y) x e) ∙ is);
-                  knows = seat.knows;
-                  spent = λ e. absurd (true≢false (sym e ∙ live));
-                  met = seat.met;
-                }
+                record { number = seat.number; ticket = seat.ticket; took = λ x e. (ticket ∙ ap Some (sym same), sym (same_Some (shown y) x e) ∙ is); knows = seat.knows; spent = λ e. absurd (true≢false (sym e ∙ live)); met = seat.met }
                 (λ _. (refl, live))
                 (λ t e. inl e),
             λ t' ticket' _ _ _. (
@@ -222,24 +207,14 @@ module _ {T : Type 0} (shown : T → Shown) (slots id : ℕ) (me : Me (Option T)
               by_view (λ _ u. u.took ≡ None) s.views id w refl (λ j u ne here. none_else u.took (none_took j u ne here)),
             ))
             (subst (λ z. Grows id z (shown y)) mine.1 (grown me.0.number id x (shown y) (seat.number live) follows))
-            record {
-              number = seat.number;
-              ticket = λ t e. absurd (none-some t e);
-              took = λ x e. absurd (none-some x e);
-              knows = λ _. knows_seen (shown y) (whose me.0);
-              spent = λ e. absurd (true≢false (sym e ∙ live));
-              met = seat.met;
-            }
+            record { number = seat.number; ticket = λ t e. absurd (none-some t e); took = λ x e. absurd (none-some x e); knows = λ _. knows_seen (shown y) (whose me.0); spent = λ e. absurd (true≢false (sym e ∙ live)); met = seat.met }
             (λ _. (refl, live))
             (λ j u ne here. (
               λ t e. let h = (r.each j u here).ticket t e in let no_turn : t ≢ r.turn = λ same. alone j u ne here (e ∙ ap Some same) in (omega arith, h.1, λ own. none-some t own),
               λ x e. absurd (none_took j u ne here x e),
             )),
-        λ y' carried'. ap (λ c. (w, carried_after c gives)) carried ∙ ap (λ z. (left_with (shown z) me.0, [])) (carried_one y y' carried carried'),
+        λ y' carried'. ap (λ c. (w, carried_after c gives)) carried ∙ ap (λ z. (left_with (shown z) me.0, [])) (same_Some y y' (ap (first_or None) (sym carried ∙ carried'))),
       )
-    where
-      carried_one : (y y' : T) → me.1 ≡ (0, Some y) ∷ [] → me.1 ≡ (0, Some y') ∷ [] → y ≡ y'
-      carried_one y y' a b = some_same y y' (first_or None me.1) (ap (first_or None) a) (ap (first_or None) b)
 
 pub carried_first : {T : Type 0} (y : T) (z : Option T) (l m : List (ℕ × Option T)) → l ≡ (0, Some y) ∷ [] → l ≡ (0, z) ∷ m → z ≡ Some y
 carried_first y z l m a b = ap (first_or None) (sym b ∙ a)

@@ -1,8 +1,8 @@
 -- Lists of entries: beginnings, the entries of one pass, and what a turn may add.
 use Rattle.std.specs.Prelude.{◌≡◌, ℕ, ◌≤◌, List, ◌++◌, ◌==◌, filter, Contains}
-use Rattle.turnstile.specs.declared.chronicle.Note.{Note}
-use Rattle.turnstile.specs.declared.chronicle.Counts.{Counts}
-use Rattle.turnstile.specs.declared.chronicle.Shown.{Shown}
+pub use Rattle.turnstile.specs.declared.chronicle.Note.{Note}
+pub use Rattle.turnstile.specs.declared.chronicle.Counts.{Counts}
+pub use Rattle.turnstile.specs.declared.chronicle.Shown.{Shown}
 
 -- the list `ys` begins with `xs`
 abbrev pub Begins : List Note → List Note → Type 0
@@ -13,16 +13,16 @@ abbrev pub AtMost : Counts → Counts → Type 0
 AtMost a b = (a.disk ≤ b.disk) × (a.clock ≤ b.clock) × (a.search ≤ b.search) × (a.high ≤ b.high)
 
 -- the entries with the number `w`, in their order
-abbrev pub own : ℕ → List Note → List Note
-own w es = filter (λ e. e.by == w) es
+abbrev pub own_entries : ℕ → List Note → List Note
+own_entries w es = filter (λ e. e.by == w) es
 
 -- of each of the numbers `ws`, `fs` has exactly the entries that `es` has, in their order
 abbrev pub SameOwn : List ℕ → List Note → List Note → Type 0
-SameOwn ws es fs = (w : ℕ) → Contains ws w → own w fs ≡ own w es
+SameOwn ws es fs = (w : ℕ) → Contains ws w → own_entries w fs ≡ own_entries w es
 
 -- each entry has the number `w`
 abbrev pub AllBy : ℕ → List Note → Type 0
-AllBy w es = own w es ≡ es
+AllBy w es = own_entries w es ≡ es
 
 -- a value that shows `x` may be left by the pass `w` that took one which showed `y`
 pub record Follows (w : ℕ) (y x : Shown) : Type 0 where

@@ -3,8 +3,7 @@ use Rattle.std.specs.Prelude.{◌≡◌, ℕ, None}
 use Rattle.atomic_table.specs.Seated.{TableId}
 use Rattle.turnstile.specs.declared.pass.Pass.{Pass}
 use Rattle.turnstile.specs.declared.stile.Turnstile.{Turnstile}
-use Rattle.turnstile.specs.declared.view.View.{View}
-use Rattle.turnstile.specs.Views.{known}
+use Rattle.turnstile.specs.Views.{known, View}
 
 -- what it knows
 abbrev pub view : Pass → View

@@ -5,11 +5,8 @@ use mathlib.Core.Option.{some, none}
 use mathlib.Core.Option as maybe
 use lib.ListN.{get_elem?}
 use Rattle.atomic_table.specs.Table.{State}
-use Rattle.turnstile.specs.declared.chronicle.Shown.{Shown}
-use Rattle.turnstile.specs.declared.view.View.{View}
-use Rattle.turnstile.specs.declared.view.Told.{Told}
-use Rattle.turnstile.specs.Entries.{Begins, AtMost, SameOwn, own}
-use Rattle.turnstile.specs.Views.{IsTold, whose}
+use Rattle.turnstile.specs.Entries.{Begins, AtMost, SameOwn, own_entries, Shown}
+use Rattle.turnstile.specs.Views.{IsTold, whose, View, Told}
 
 abbrev pub waits : Option ℕ → ℕ
 waits (Some t) = 1
@@ -80,6 +77,6 @@ module _ {T : Type 0} (shown : T → Shown) where
     pub each : (i : ℕ) (v : View) → get_elem? s.views i ≡ some v → IsSeated next turn log s.views i v
     pub apart : Apart s.views
     -- numbers not yet given have no entries
-    pub unborn : (w : ℕ) → length s.views ≤ w → own w log.entries ≡ []
+    pub unborn : (w : ℕ) → length s.views ≤ w → own_entries w log.entries ≡ []
     -- pass 0 counts the numbers given, and is never met
     pub head : (v : View) × (get_elem? s.views 0 ≡ some v) × (v.given ≡ length s.views) × (v.spent ≡ false)

@@ -1,28 +1,16 @@
 -- What a pass knows, and how it changes: when it comes, leaves, gives a pass or meets one.
 use Rattle.std.specs.Prelude.{◌≡◌, ℕ, ◌+◌, ◌<◌, List, [], ◌∷◌, ◌++◌, length, max, ltb, cond, Option, Some, None, Bool, true, false, Contains}
 use base.Stored.{gnil}
-use Rattle.turnstile.specs.declared.chronicle.Shown.{Shown}
-use Rattle.turnstile.specs.declared.view.Told.{Told}
-use Rattle.turnstile.specs.declared.view.View.{View}
-use Rattle.turnstile.specs.Entries.{Begins, SameOwn}
+pub use Rattle.turnstile.specs.declared.view.Told.{Told}
+pub use Rattle.turnstile.specs.declared.view.View.{View}
+use Rattle.turnstile.specs.Entries.{Begins, SameOwn, Counts, Shown}
 
 abbrev pub untold : Told
 untold = record { entries = []; numbers = [] }
 
 -- the view of a pass that comes with the number `i` and has seen `x`
 abbrev pub newcomer : ℕ → Shown → View
-newcomer i x = record {
-  number = i;
-  ticket = None;
-  took = None;
-  away = false;
-  seen = x;
-  met = [];
-  left = untold;
-  right = untold;
-  given = 1;
-  spent = false;
-}
+newcomer i x = record { number = i; ticket = None; took = None; away = false; seen = x; met = []; left = untold; right = untold; given = 1; spent = false }
 
 -- the numbers whose entries a pass knows whole: its own, and those of the passes that it met
 abbrev pub whose : View → List ℕ
@@ -37,23 +25,21 @@ abbrev pub left_with : Shown → View → View
 left_with x v = record v { ticket = None; took = None; away = false; seen = x; left = untold; right = untold }
 
 -- pass 0 after it gave a pass, and the new pass
-abbrev pub gave : View → View
-gave v = record v { given = v.given + 1 }
+abbrev pub with_number_given : View → View
+with_number_given v = record v { given = v.given + 1 }
 
 abbrev pub fresh : View → View
 fresh v = record (newcomer v.given v.seen) { given = 0 }
+
+abbrev greater : Counts → Counts → Counts
+greater a b = record { disk = max a.disk b.disk; clock = max a.clock b.clock; search = max a.search b.search; high = max a.high b.high }
 
 -- of two beginnings of one history the longer, with the greater of each number
 abbrev pub longer : Shown → Shown → Shown
 longer a b = record {
   stem = a.stem;
   entries = cond (ltb (length a.entries) (length b.entries)) b.entries a.entries;
-  counts = record {
-    disk = max a.counts.disk b.counts.disk;
-    clock = max a.counts.clock b.counts.clock;
-    search = max a.counts.search b.counts.search;
-    high = max a.counts.high b.counts.high;
-  };
+  counts = greater a.counts b.counts;
 }
 
 -- the pass that stays where `v` met `w`
@@ -80,12 +66,9 @@ IsTold a x = Begins a.entries x.entries × SameOwn a.numbers a.entries x.entries
 abbrev pub AllMet : View → Type 0
 AllMet v = (w : ℕ) → 0 < w → w < v.given → Contains v.met w
 
--- a pass's list has one view; nobody's stands in for none, which never comes
-abbrev nobody : View
-nobody = newcomer 0 nothing
-
+-- a pass's list has one view; that of a pass that was met stands in for none, which never comes
 abbrev pub known : List View → View
-known [] = nobody
+known [] = ended
 known (v ∷ vs) = v
 
 abbrev pub is_there : {A : Type 0} → Option A → Bool

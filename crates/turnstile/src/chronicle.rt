@@ -1,7 +1,7 @@
 //! What a turnstile has to know of the value that it guards.
 //!
 //! A value shows a stem, which never changes, a list of entries, which only grows, and four numbers, which never fall.
-//! Contracts alone see these: nothing here runs, and no value of these types is made. `ledger` has a small example.
+//! Contracts alone see these: nothing here runs, and no value of these types is made.
 ghost use base.Stored.{Gv};
 ghost use base.Fml.{ftrue};
 ghost use Rattle.atomic_table.specs.Seated.{itself};

@@ -3,10 +3,8 @@ ghost use Rattle.std.specs.Prelude.{◌≡◌, ◌≢◌, ℕ, List, ◌++◌, O
 ghost use mathlib.Core.Option.{some};
 ghost use lib.ListN.{get_elem?};
 ghost use Rattle.atomic_table.specs.Table.{State};
-ghost use Rattle.turnstile.specs.declared.chronicle.Shown.{Shown};
-ghost use Rattle.turnstile.specs.declared.view.View.{View};
-ghost use Rattle.turnstile.specs.declared.chronicle.Note.{Note};
-ghost use Rattle.turnstile.specs.Entries.{own, Follows};
+ghost use Rattle.turnstile.specs.Views.{View};
+ghost use Rattle.turnstile.specs.Entries.{own_entries, Follows, Note, Shown};
 ghost use Rattle.turnstile.specs.Rule.{Kept};
 
 use crate::chronicle::Chronicle;
@@ -20,10 +18,10 @@ pub fn one_pass_has_the_value<T: Chronicle>()
 /// What a turn added is, of its pass's entries, what there is more.
 pub fn turn_adds_its_own_entries()
     ensures { (w : ℕ) (y x : Shown) (more : List Note) → Follows w y x
-        → x.entries ≡ y.entries ++ more → own w x.entries ≡ own w y.entries ++ more }
+        → x.entries ≡ y.entries ++ more → own_entries w x.entries ≡ own_entries w y.entries ++ more }
 {}
 
 /// A turn leaves the entries of every other pass as they were.
 pub fn others_entries_stay()
-    ensures { (w u : ℕ) (y x : Shown) → Follows w y x → u ≢ w → own u x.entries ≡ own u y.entries }
+    ensures { (w u : ℕ) (y x : Shown) → Follows w y x → u ≢ w → own_entries u x.entries ≡ own_entries u y.entries }
 {}

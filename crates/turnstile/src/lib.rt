@@ -6,13 +6,12 @@
 //! what the other has seen.
 //!
 //! `chronicle` says what is asked of the value, `view` what a pass knows and the rule that every step keeps, `moves` what
-//! each step tells its pass, `steps` are these steps, `pass` and `stile` the public calls. `ledger` is a small value of
-//! one's own, for those who write another one. The rule itself stands in specs/Rule.antt.
+//! each step tells its pass, `steps` how one waits and wakes, `pass` and `stile` the public calls. The rule itself stands in
+//! specs/Rule.antt.
 #![tactic(auto)]
 
 mod chronicle;
 pub mod laws;
-pub mod ledger;
 mod moves;
 mod pass;
 mod steps;

@@ -2,7 +2,7 @@
 //!
 //! The types have no values: they name, for the table, a definition of specs/inside/Steps.antt or specs/Views.antt.
 ghost use Rattle.turnstile.specs.inside.Steps.{drew, looked, laid, fetched, passed, recalled};
-ghost use Rattle.turnstile.specs.Views.{gave, fresh, joined, ended};
+ghost use Rattle.turnstile.specs.Views.{with_number_given, fresh, joined, ended};
 
 use crate::chronicle::Chronicle;
 use crate::view::View;
@@ -54,7 +54,7 @@ impl<T: Chronicle> Play<Option<T>, View> for Recall {
 pub struct Give;
 
 impl Split<View> for Give {
-    ghost left = { gave };
+    ghost left = { with_number_given };
 
     ghost right = { fresh };
 }

@@ -3,38 +3,18 @@
 //! It keeps the value in the one slot of a table with two words, the next ticket and the one that is served. Memory is
 //! taken in `new` alone. Each clause below is about the view of a pass: what it has seen, which numbers it has met.
 ghost use Rattle.std.specs.Prelude.{◌≡◌, ℕ, ◌<◌, ◌≤◌, ◌≢◌, [], ◌∷◌, ◌++◌, List, Some, Contains, IfOk, IfErr, OnOk, OnErr};
-ghost use Rattle.turnstile.specs.declared.chronicle.Note.{Note};
-ghost use Rattle.turnstile.specs.declared.chronicle.Shown.{Shown};
-ghost use Rattle.turnstile.specs.Entries.{Begins, AtMost, own, SameOwn, AllBy, Follows};
-ghost use Rattle.turnstile.specs.Views.{IsSamePass, newcomer, gave, fresh, joined, left_with, whose, AllMet};
+ghost use Rattle.turnstile.specs.Entries.{Begins, AtMost, own_entries, SameOwn, AllBy, Follows, Note, Shown};
+ghost use Rattle.turnstile.specs.Views.{IsSamePass, newcomer, with_number_given, fresh, joined, left_with, whose, AllMet};
 
 use crate::chronicle::Chronicle;
+use crate::moves::{Draw, Fetch, Give, Hand, Lay, Meet, Recall};
 use crate::pass::{NoSeat, Pass};
-use crate::steps::{
-    Board, fetch, give_seat, hand_on, join_seats, open_table, take_seat, take_turn, wake_next,
-};
+use crate::steps::{Board, TICKETS, TURNS, take_seat, wait_for, wake_next};
 use atomic_table::{Refused, Table};
 use kumo_base::Memory;
-use std::alloc::{AllocFailed, Global};
+use std::alloc::Global;
 use std::snapshot::Snapshot;
 use std::sync::Wait;
-
-/// A list of one slot with `value` in it. Where there is no memory the value comes back.
-fn one_slot<T>(alloc: Global, value: T) -> Result<Vec<Option<T>, Global>, (Memory, T)>
-    ensures ok { IfOk result (λ xs. xs.items ≡ Some value ∷ []) }
-    ensures err { IfErr result (λ e. e.1 ≡ value) }
-{
-    let Ok(mut slots) = Vec::with_capacity(alloc, 1) else {
-        return Err((Memory, value));
-    };
-    if let Err(failed) = slots.push(Some(value)) {
-        let AllocFailed { value } = failed;
-        slots.destroy_empty();
-        let Some(value) = value else { unreachable!() };
-        return Err((Memory, value));
-    }
-    Ok(slots)
-}
 
 /// A lock around a value with a history. `seats` is how many passes it has room for, the first with them.
 pub struct Turnstile<T: Chronicle> {
@@ -57,10 +37,10 @@ impl<T: Chronicle> Turnstile<T> {
         ensures err { IfErr result (λ e. e.1 ≡ value) }
     {
         let about = Snapshot::of(&value);
-        let slots = match one_slot(alloc, value) {
-            Ok(slots) => slots,
-            Err(failed) => return Err(failed),
+        let Ok(mut slots) = Vec::with_capacity(alloc, 1) else {
+            return Err((Memory, value));
         };
+        slots.push(Some(value)).unwrap();
         match Table::new(alloc, &[0, 0], slots, &about) {
             Ok((table, seat)) => {
                 let pass = Pass {
@@ -71,11 +51,9 @@ impl<T: Chronicle> Turnstile<T> {
                 Ok((Turnstile { table, seats }, pass))
             }
             Err(Refused { mut slots }) => {
-                let Some(Some(value)) = slots.pop() else {
-                    unreachable!()
-                };
+                let slot = slots.pop().unwrap();
                 slots.destroy_empty();
-                Err((Memory, value))
+                Err((Memory, slot.unwrap()))
             }
         }
     }
@@ -89,9 +67,9 @@ impl<T: Chronicle> Turnstile<T> {
         ensures table { stile_of pass.new ≡ stile_of pass.old }
         ensures seat { OnOk result ((view pass.old).given < seats_of self.now) }
         ensures no_seat { OnErr result (seats_of self.now ≤ (view pass.old).given) }
-        ensures gave { OnOk result (view pass.new ≡ gave (view pass.old)) }
+        ensures gave { OnOk result (view pass.new ≡ with_number_given (view pass.old)) }
         ensures fresh { IfOk result (λ p. (stile_of p ≡ stile_of pass.old) × (view p ≡ fresh (view pass.old))) }
-        ensures no_own { IfOk result (λ p. own (view p).number (view p).seen.entries ≡ []) }
+        ensures no_own { IfOk result (λ p. own_entries (view p).number (view p).seen.entries ≡ []) }
         ensures same { OnErr result (view pass.new ≡ view pass.old) }
     {
         if pass.given >= self.seats {
@@ -99,7 +77,8 @@ impl<T: Chronicle> Turnstile<T> {
         }
         let number = pass.given;
         let mut seat = take_seat(&mut pass.badge);
-        let other = give_seat(&self.table, &mut seat);
+        self.table.shared.load::<Recall>(&mut seat, TURNS);
+        let other = self.table.shared.split_seat::<Give>(&mut seat);
         pass.badge = seat.into_badge();
         pass.given = number + 1;
         Ok(Pass {
@@ -122,9 +101,13 @@ impl<T: Chronicle> Turnstile<T> {
         ensures numbers { AtMost (view pass.old).seen.counts (T.shown result).counts }
     {
         let mut seat = take_seat(&mut pass.badge);
-        let value = take_turn(&self.table, rt, &mut seat);
+        let board = &self.table.shared;
+        let ticket = board.fetch_add::<Draw>(&mut seat, TICKETS, 1);
+        wait_for(&self.table, rt, &mut seat, ticket);
+        let held = board.exchange(&mut seat, 0, None);
+        board.load::<Lay>(&mut seat, TURNS);
         pass.badge = seat.into_badge();
-        value
+        held.unwrap()
     }
 
     /// Puts the value back and serves the next ticket. What the turn added carries the pass's number, and counts as seen.
@@ -135,10 +118,13 @@ impl<T: Chronicle> Turnstile<T> {
         ensures left { view pass.new ≡ left_with (T.shown value) (view pass.old) }
     {
         let mut seat = take_seat(&mut pass.badge);
-        fetch(&self.table, &mut seat);
-        let served = hand_on(&self.table, &mut seat, value);
-        wake_next(&self.table, served);
+        let board = &self.table.shared;
+        board.load::<Fetch>(&mut seat, TURNS);
+        let old = board.exchange(&mut seat, 0, Some(value));
+        let None = old else { unreachable!() };
+        let served = board.fetch_add::<Hand>(&mut seat, TURNS, 1);
         pass.badge = seat.into_badge();
+        wake_next(&self.table, served);
     }
 
     /// Takes over what `other` has seen and the numbers that it knows. The pass `other` ends.
@@ -154,13 +140,11 @@ impl<T: Chronicle> Turnstile<T> {
         ensures own { SameOwn (whose (view pass.old)) (view pass.old).seen.entries (view pass.new).seen.entries }
         ensures others_own { SameOwn (whose (view other)) (view other).seen.entries (view pass.new).seen.entries }
     {
-        let Pass {
-            mut badge,
-            number: _,
-            given: _,
-        } = other;
+        let Pass { mut badge, .. } = other;
         let mut seat = take_seat(&mut pass.badge);
-        join_seats(&self.table, &mut seat, take_seat(&mut badge));
+        let board = &self.table.shared;
+        board.join_seat::<Meet>(&mut seat, take_seat(&mut badge));
+        board.load::<Recall>(&mut seat, TURNS);
         pass.badge = seat.into_badge();
     }
 
@@ -173,15 +157,14 @@ impl<T: Chronicle> Turnstile<T> {
         ensures stem { (T.shown result).stem ≡ (view pass).seen.stem }
         ensures prefix { Begins (view pass).seen.entries (T.shown result).entries }
         ensures own { SameOwn (whose (view pass)) (view pass).seen.entries (T.shown result).entries }
-        ensures others { (w : ℕ) → ¬ Contains (whose (view pass)) w → own w (T.shown result).entries ≡ [] }
+        ensures others { (w : ℕ) → ¬ Contains (whose (view pass)) w → own_entries w (T.shown result).entries ≡ [] }
         ensures numbers { AtMost (view pass).seen.counts (T.shown result).counts }
     {
         let Turnstile { table, seats: _ } = self;
-        let Pass {
-            mut badge,
-            number: _,
-            given: _,
-        } = pass;
-        open_table(table, take_seat(&mut badge))
+        let Pass { mut badge, .. } = pass;
+        let mut closed = table.close_with(take_seat(&mut badge));
+        let slot = closed.take(0);
+        closed.free();
+        slot.unwrap()
     }
 }

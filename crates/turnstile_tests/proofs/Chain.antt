@@ -1,5 +1,5 @@
 -- Whom the passes of the tests met.
-use Rattle.std.proofs.Common.{◌≡◌, ℕ, zero, suc, ◌<◌, List, [], ◌∷◌, ◌++◌, ap, ◌∙◌, refl, Contains, arith, subst, sym}
+use Rattle.std.proofs.Common.{◌≡◌, ℕ, zero, suc, ◌<◌, [], ◌∷◌, ◌++◌, refl, Contains, arith, subst, sym}
 use Rattle.turnstile.specs.Passes.{view}
 use Rattle.turnstile.specs.Views.{joined, AllMet}
 use Rattle.turnstile.specs.declared.view.View.{View}

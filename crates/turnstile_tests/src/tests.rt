@@ -4,11 +4,11 @@ ghost use Rattle.turnstile.specs.Passes.{view, stile_of, id_of, KeepsPlace};
 ghost use Rattle.turnstile.specs.Views.{joined};
 ghost use Rattle.turnstile_tests.specs.inside.Alone.{IsReady, IsAlone, BothReady, BothAlone, KeepsBoth, AllReady, KeepsAll, IsSecond, AreSeconds, both_joined};
 
+use crate::ledger::{Ledger, mark_turn};
 use std::process::Abort;
 use std::sync::Wait;
 use std::test::Fail;
 use std::thread::{Threads, join_mut};
-use turnstile::ledger::{Ledger, mark_turn};
 use turnstile::{NoSeat, Pass, Turnstile};
 
 type Pair = (Pass, Pass);

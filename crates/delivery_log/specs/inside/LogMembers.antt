@@ -1,9 +1,12 @@
 -- The members of the lines of the log.
-use Rattle.std.specs.Prelude.{ℕ, List, codes}
+use Rattle.std.specs.Prelude.{ℕ, List, Option, Some, None, codes}
 use Rattle.serde_json.specs.Data.{string, Members, member, no_members, put}
+use Rattle.queue_name.specs.QueueName.{spelling}
+use Rattle.queue_name.specs.declared.criteria.Criteria.{Criteria}
+use Rattle.queue_name.specs.declared.message.Message.{Message}
 use Rattle.smtp_reply.specs.declared.reply.Outcome.{Outcome}
 use Rattle.smtp_reply.specs.declared.reply.Outcome.TheVariants as outcome
-use Rattle.delivery_log.specs.LogText.{lost_text, whole_number}
+use Rattle.delivery_log.specs.LogText.{id_text, lost_text, whole_number}
 
 -- what each line has: when, by which pass and what
 abbrev pub common_members : ℕ → ℕ → List ℕ → Members
@@ -16,3 +19,36 @@ with_decision (outcome.Delivered r) ms = put (codes "reply") (string r.text) ms
 with_decision (outcome.Transient r) ms = put (codes "reply") (string r.text) ms
 with_decision (outcome.Permanent r) ms = put (codes "reply") (string r.text) ms
 with_decision (outcome.Lost why) ms = put (codes "lost") (string (lost_text why)) ms
+
+-- the members with a component, where it is given
+abbrev pub with_given : List ℕ → Option (List ℕ) → Members → Members
+with_given key None ms = ms
+with_given key (Some text) ms = put key (string text) ms
+
+-- the members with those that criteria give
+abbrev pub with_criteria : Criteria → Members → Members
+with_criteria criteria ms =
+    with_given (codes "campaign") criteria.campaign
+    (with_given (codes "domain") criteria.domain (with_given (codes "tenant") criteria.tenant ms))
+
+-- what the lines of a message that comes into the history have
+abbrev pub message_members : ℕ → ℕ → List ℕ → Message → Members
+message_members at by kind m =
+    member (codes "at") (whole_number at)
+    (member (codes "body") (string m.body)
+    (member (codes "by") (whole_number by)
+    (member (codes "created") (whole_number m.created)
+    (member (codes "id") (string (id_text m.id))
+    (member (codes "kind") (string kind)
+    (member (codes "queue") (string (spelling m.name))
+    (member (codes "recipient") (string m.recipient)
+    (member (codes "sender") (string m.sender) no_members))))))))
+
+-- what the lines of orders have
+abbrev pub order_members : ℕ → ℕ → ℕ → List ℕ → Members
+order_members at by number what =
+    member (codes "at") (whole_number at)
+    (member (codes "by") (whole_number by)
+    (member (codes "kind") (string (codes "Ordered"))
+    (member (codes "order") (whole_number number)
+    (member (codes "what") (string what) no_members))))

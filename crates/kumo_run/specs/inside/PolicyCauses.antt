@@ -1,5 +1,5 @@
 -- The refusal that a fault of policy texts comes to, and its cause.
-use Rattle.kumo_outside.specs.Told.{TextsSeen, SinkSeen}
+use Rattle.kumo_outside.specs.Content.{TextsSeen, SinkSeen}
 use Rattle.kumo_outside.specs.Search.{SearchSeen}
 use Rattle.command_words.specs.Commands.{PolicyNames}
 use Rattle.policy_texts.specs.declared.load.LoadFault.{LoadFault}

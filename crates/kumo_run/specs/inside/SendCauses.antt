@@ -1,11 +1,11 @@
 -- Why a mail text is not sent, step by step: it is not read, or its messages are not sent.
-use Rattle.std.specs.Prelude.{◌≡◌, List, [], ◌∷◌, ⊤, ◌<◌, length}
+use Rattle.std.specs.Prelude.{◌≡◌, List, [], ◌∷◌, ⊤}
 use Rattle.queue_name.specs.declared.message.Message.{Message}
 use Rattle.kumo_outside.specs.declared.session.Session.{Session}
 use Rattle.mail_input.specs.Inputs.{refused}
 use Rattle.mail_input.specs.declared.MailFault.{MailFault}
 use Rattle.mail_input.specs.declared.MailFault.TheVariants as fault
-use Rattle.kumo_run.specs.MailRead.{MailRead, too_long, mail_gives}
+use Rattle.kumo_run.specs.MailRead.{MailRead, too_long, mail_gives, IsTooMuch}
 use Rattle.kumo_run.specs.declared.refusal.Refusal.{Refusal}
 use Rattle.kumo_run.specs.declared.refusal.Refusal.TheVariants as refusal
 use Rattle.kumo_run.specs.Causes.{FallsShort}
@@ -22,10 +22,10 @@ IsMisread refusal.Limit found = found ≡ too_long
 IsMisread refusal.Memory found = ⊤
 IsMisread _ found = ⊥
 
--- where the messages were read: memory ran out, or there is more than one, or the one was not delivered in the one session
+-- where the messages were read: memory ran out, or they are not sent so far, or the one was not delivered in the one session
 abbrev pub StopsShort : Refusal → List Message → List Session → Type 0
 StopsShort refusal.Memory mail sessions = sessions ≡ []
-StopsShort refusal.NotYetMail mail sessions = (1 < length mail) × (sessions ≡ [])
+StopsShort refusal.NotYetMail mail sessions = IsTooMuch mail × (sessions ≡ [])
 StopsShort refusal.NotYetReply mail sessions =
     (m : Message) × (s : Session) × (mail ≡ m ∷ []) × (sessions ≡ s ∷ []) × FallsShort m s
 StopsShort _ mail sessions = ⊥

@@ -1,6 +1,6 @@
 -- What the writing of a deed's text leaves.
 use Rattle.std.specs.Prelude.{◌≡◌, ℕ, ◌⊎◌, List, Result, Ok, Err}
-use Rattle.kumo_outside.specs.Told.{SinkSeen}
+use Rattle.kumo_outside.specs.Content.{SinkSeen}
 use Rattle.delivery_log.specs.declared.log.LogWriteFault.{LogWriteFault}
 use Rattle.delivery_log.specs.declared.log.LogWriteFault.TheVariants as log
 use Rattle.kumo_run.specs.declared.status.Status.{Status}

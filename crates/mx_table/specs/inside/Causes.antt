@@ -1,10 +1,10 @@
 -- Why one line gives no row: what the calls that read a line answer.
 use Rattle.std.specs.Prelude.{◌≡◌, Bool, false, Option, Some, Result, Err, ⊤}
 use Rattle.policy_core.specs.declared.mx.MxRow.{MxRow}
-use Rattle.policy_core.specs.declared.fault.Why.{Why}
-use Rattle.policy_core.specs.declared.fault.Why.TheVariants.{BadName}
-use Rattle.policy_core.specs.declared.fault.PolicyFault.{PolicyFault}
-use Rattle.policy_core.specs.declared.fault.PolicyFault.TheVariants as policy_fault
+use Rattle.policy_fault.specs.declared.fault.Why.{Why}
+use Rattle.policy_fault.specs.declared.fault.Why.TheVariants.{BadName}
+use Rattle.policy_fault.specs.declared.fault.PolicyFault.{PolicyFault}
+use Rattle.policy_fault.specs.declared.fault.PolicyFault.TheVariants as policy_fault
 use Rattle.mx_table.specs.declared.fault.RowFault.{RowFault}
 use Rattle.mx_table.specs.declared.fault.RowFault.TheVariants as row_fault
 use Rattle.mx_table.specs.MxText.{LineFault, reported}

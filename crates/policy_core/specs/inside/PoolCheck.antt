@@ -4,16 +4,17 @@ use Rattle.policy_core.specs.declared.settings.Layer.{Layer}
 use Rattle.policy_core.specs.declared.pools.Above.{Above}
 use Rattle.policy_core.specs.declared.pools.Above.TheVariants as above
 use Rattle.policy_core.specs.declared.pools.PoolCheck.{PoolCheck}
-use Rattle.policy_core.specs.Policy.{PlacedLayer, below, least_text, places_of_unknown}
+use Rattle.policy_fault.specs.TableNames.{joined}
+use Rattle.policy_core.specs.Policy.{PlacedLayer, least_text, places_of_unknown}
 
 abbrev pub name_above : Above → List ℕ
 name_above above.Tenants = codes "tenant"
 name_above above.Queues = codes "queue"
-name_above (above.Domain domain) = below (codes "queue") domain.now
-name_above (above.Tenant domain tenant) = below (below (codes "queue") domain.now) tenant.now
+name_above (above.Domain domain) = joined (codes "queue") domain.now
+name_above (above.Tenant domain tenant) = joined (joined (codes "queue") domain.now) tenant.now
 
 abbrev pub layer_at : Above → List ℕ → Layer → PlacedLayer
-layer_at place table layer = record { place = below (name_above place) table; layer = layer }
+layer_at place table layer = record { place = joined (name_above place) table; layer = layer }
 
 -- with further layers
 unfoldable pub with_layers : PoolCheck → List PlacedLayer → PoolCheck

@@ -1,7 +1,7 @@
 -- What each stage of loading says: what the text of a name comes to, and the counts of the devices that it asks.
 use Rattle.std.specs.Prelude.{◌≡◌, ℕ, List, Option, Result, Err, option_map}
 use Rattle.std.specs.Borrow.{Bor}
-use Rattle.kumo_outside.specs.Told.{TextsSeen}
+use Rattle.kumo_outside.specs.Content.{TextsSeen}
 use Rattle.policy_core.specs.Policy.{unknown_pool}
 use Rattle.policy_core.specs.declared.sources.Sources.{Sources}
 use Rattle.policy_core.specs.declared.queues.Queues.{Queues}

@@ -2,7 +2,7 @@
 use Rattle.std.specs.Prelude.{◌≡◌, ℕ, ◌≤◌, ◌⊎◌, List, ◌++◌, take, drop, true, false, Result, Ok, Err}
 use Rattle.kumo_base.specs.Causes.{Rose}
 use Rattle.kumo_outside.specs.Sessions.{LinkSeen}
-use Rattle.kumo_outside.specs.Told.{extended, TakesProperFront}
+use Rattle.kumo_outside.specs.Content.{told_with, TakesProperPrefix}
 use Rattle.smtp_reply.specs.declared.reply.Lost.{Lost}
 use Rattle.smtp_reply.specs.declared.reply.Lost.TheVariants.{LinkFault, Ended, BadReply, TooLong}
 use Rattle.smtp_reply.specs.declared.reader.Heard.TheVariants.{Whole, More, Bad}
@@ -12,13 +12,13 @@ use Rattle.smtp_dialogue.specs.Speaks.{Side}
 
 -- the bytes were sent whole, and nothing was got
 pub record Sends (words : List ℕ) (old new : LinkSeen) : Type 0 where
-  pub whole : new.sent ≡ extended old.sent words
+  pub whole : new.sent ≡ told_with old.sent words
   pub got_is : new.got ≡ old.got
   pub later : old.faults ≤ new.faults
 
 -- the link failed before the bytes were sent whole
 pub record FailsToSend (words : List ℕ) (old new : LinkSeen) : Type 0 where
-  pub part : TakesProperFront old.sent new.sent words
+  pub part : TakesProperPrefix old.sent new.sent words
   pub got_is : new.got ≡ old.got
   pub not_ended : new.ended ≡ false
   pub later : old.faults ≤ new.faults
@@ -27,7 +27,7 @@ pub record FailsToSend (words : List ℕ) (old new : LinkSeen) : Type 0 where
 -- bytes came, and stand behind those that were not yet read
 pub record Gets (old new : Side) : Type 0 where
   pub more : List ℕ
-  pub grows : new.link.got ≡ extended old.link.got more
+  pub grows : new.link.got ≡ told_with old.link.got more
   pub added : new.unread ≡ old.unread ++ more
   pub sent_is : new.link.sent ≡ old.link.sent
   pub later : old.link.faults ≤ new.link.faults
@@ -57,7 +57,7 @@ IsAnswer (Err TooLong) bytes reply old new = (heard bytes).what ≡ heard_as.Too
 -- a reply was read, or why none was
 pub record Hears {T : Type 0} (old new : Side) (reply : List ℕ) (result : Result T Lost) : Type 0 where
   pub more : List ℕ
-  pub grows : new.link.got ≡ extended old.link.got more
+  pub grows : new.link.got ≡ told_with old.link.got more
   pub sent_is : new.link.sent ≡ old.link.sent
   pub later : old.link.faults ≤ new.link.faults
   pub answer : IsAnswer result (old.unread ++ more) reply old new

@@ -1,10 +1,8 @@
 -- What each step of a turn tells its pass, of the seat before and after it.
-use Rattle.std.specs.Prelude.{◌≡◌, ℕ, ◌%◌, ◌^◌, [], ◌∷◌, Option, Some, None, Bool, true, false}
+use Rattle.std.specs.Prelude.{◌≡◌, ℕ, ◌%◌, ◌^◌, [], ◌∷◌, Option, Some, None, true, false}
 use Rattle.atomic_table.specs.Table.{Me}
-use Rattle.turnstile.specs.declared.chronicle.Shown.{Shown}
-use Rattle.turnstile.specs.declared.view.View.{View}
-use Rattle.turnstile.specs.Entries.{own}
-use Rattle.turnstile.specs.Views.{left_with, IsTold}
+use Rattle.turnstile.specs.Entries.{own_entries, Shown}
+use Rattle.turnstile.specs.Views.{left_with, IsTold, View}
 use Rattle.turnstile.specs.Rule.{Knows}
 
 module _ {T : Type 0} (shown : T → Shown) where
@@ -38,17 +36,8 @@ module _ {T : Type 0} (shown : T → Shown) where
   abbrev pub recalled : Sat → ℕ → Sat → Type 0
   recalled m found m' = (m' ≡ m)
       × (m.0.spent ≡ false → IsTold m.0.left m.0.seen × IsTold m.0.right m.0.seen
-      × (m.0.number ≡ 0 → own m.0.given m.0.seen.entries ≡ []))
+      × (m.0.number ≡ 0 → own_entries m.0.given m.0.seen.entries ≡ []))
 
-module _ {T : Type 0} where
-  -- it has no ticket
-  abbrev pub HasNoTicket : Me (Option T) View → Type 0
-  HasNoTicket m = (m.0.ticket ≡ None) × (m.0.took ≡ None) × (m.0.spent ≡ false) × (m.1 ≡ [])
-
-  -- it has the ticket whose number modulo 2 ^ 64 is `found`
-  abbrev pub Waits : ℕ → Me (Option T) View → Type 0
-  Waits found m = (t : ℕ) × (m.0.ticket ≡ Some t) × (found ≡ t % 2 ^ 64) × (m.0.took ≡ None) × (m.0.spent ≡ false) × (m.1 ≡ [])
-
-  -- it took a value that showed `x`, and its slot is out with `held` in it
-  abbrev pub Has : Shown → Bool → Option T → Me (Option T) View → Type 0
-  Has x away held m = (m.0.took ≡ Some x) × (m.0.away ≡ away) × (m.0.spent ≡ false) × (m.1 ≡ (0, held) ∷ [])
+-- it has the ticket whose number modulo 2 ^ 64 is `found`
+abbrev pub Waits : {T : Type 0} → ℕ → Me (Option T) View → Type 0
+Waits found m = (t : ℕ) × (m.0.ticket ≡ Some t) × (found ≡ t % 2 ^ 64) × (m.0.took ≡ None) × (m.0.spent ≡ false) × (m.1 ≡ [])

@@ -1,6 +1,6 @@
 -- What one line does to the sink and to what is gathered.
 use Rattle.std.proofs.Common.{◌∙◌, ap}
-use Rattle.kumo_outside.specs.Told.{extended}
+use Rattle.kumo_outside.specs.Content.{told_with}
 use Rattle.delivery_log.proofs.LogWriting.{OnErr-from, gathers_all, gathers_none, front_first, front_second}
 use Rattle.delivery_log.proofs.log.write_line.Goals as goal
 
@@ -16,5 +16,5 @@ returns-in_err-put_all-2-clause-err g c =
 
 pub returns-clause-ok : goal.returns-clause-ok
 returns-clause-ok g c =
-    let first = c.in_ok-put_all.ensures.whole ∙ ap (extended (g.O.Sink.seen c.args.out.now).told) c.bytes.ensures in
+    let first = c.in_ok-put_all.ensures.whole ∙ ap (told_with (g.O.Sink.seen c.args.out.now).told) c.bytes.ensures in
     gathers_none _ _ _ _ _ _ first c.in_ok-put_all-2.ensures.whole c.clear.ensures

@@ -1,9 +1,9 @@
 use Rattle.std.proofs.Common.{◌≡◌, subst, ap, ◌∙◌, List, ℕ, Option, ◌++◌, codes}
-use Rattle.kumo_outside.specs.Told.{extended, TakesFront}
-use Rattle.policy_core.specs.Words.{name_of_file, name_of_why}
-use Rattle.policy_core.specs.declared.fault.PolicyFile.{PolicyFile}
-use Rattle.policy_core.specs.declared.fault.Why.{Why}
-use Rattle.kumo_outside.proofs.ToldLemmas.{extended-next, TakesFront-more, TakesFront-after}
+use Rattle.kumo_outside.specs.Content.{told_with, TakesPrefix}
+use Rattle.policy_fault.specs.Words.{name_of_file, name_of_why}
+use Rattle.policy_fault.specs.declared.fault.PolicyFile.{PolicyFile}
+use Rattle.policy_fault.specs.declared.fault.Why.{Why}
+use Rattle.kumo_outside.proofs.ContentLemmas.{told_with-next, TakesPrefix-more, TakesPrefix-after}
 use Rattle.kumo_run.specs.RefusalLine.{policy_start, policy_place, policy_end}
 use Rattle.kumo_run.proofs.ResultLemmas.{OnErr-always}
 use Rattle.kumo_run.proofs.refusal.put_policy_line.Goals as goal
@@ -17,35 +17,35 @@ place_is first last table key e h = ap (λ (x : List ℕ). x ++ (codes " " ++ la
 end_is : (name : List ℕ) (why : Why) → name ≡ name_of_why why → codes ": " ++ (name ++ codes "\n") ≡ policy_end why
 end_is name why e = ap (λ (n : List ℕ). codes ": " ++ (n ++ codes "\n")) e
 
-told_as : (old new : Option (List ℕ)) (text line : List ℕ) → text ≡ line → new ≡ extended old text → new ≡ extended old line
-told_as old new text line e h = h ∙ ap (extended old) e
+told_as : (old new : Option (List ℕ)) (text line : List ℕ) → text ≡ line → new ≡ told_with old text → new ≡ told_with old line
+told_as old new text line e h = h ∙ ap (told_with old) e
 
-front_as : (old new : Option (List ℕ)) (text line : List ℕ) → text ≡ line → TakesFront old new text → TakesFront old new line
-front_as old new text line e h = subst (λ (bytes : List ℕ). TakesFront old new bytes) e h
+prefix_as : (old new : Option (List ℕ)) (text line : List ℕ) → text ≡ line → TakesPrefix old new text → TakesPrefix old new line
+prefix_as old new text line e h = subst (λ (bytes : List ℕ). TakesPrefix old new bytes) e h
 
 pub returns-in_err-put_three-clause-part : goal.returns-in_err-put_three-clause-part
 returns-in_err-put_three-clause-part g c =
-    OnErr-always _ (TakesFront-more _ _ _ _ (front_as _ _ _ _ (start_is _ c.args.place.now.file c.name.ensures) c.in_err-put_three.ensures.part))
+    OnErr-always _ (TakesPrefix-more _ _ _ _ (prefix_as _ _ _ _ (start_is _ c.args.place.now.file c.name.ensures) c.in_err-put_three.ensures.part))
 
 pub returns-in_err-put_three-2-clause-part : goal.returns-in_err-put_three-2-clause-part
 returns-in_err-put_three-2-clause-part g c =
     let place = c.args.place.now in
     let middle = place_is _ _ place.table place.key c.as_str.ensures c.as_str-2.ensures in
-    OnErr-always _ (TakesFront-after _ _ _ _ _ (told_as _ _ _ _ (start_is _ place.file c.name.ensures) c.in_ok-put_three.ensures.whole)
-    (TakesFront-more _ _ _ _ (front_as _ _ _ _ middle c.in_err-put_three-2.ensures.part)))
+    OnErr-always _ (TakesPrefix-after _ _ _ _ _ (told_as _ _ _ _ (start_is _ place.file c.name.ensures) c.in_ok-put_three.ensures.whole)
+    (TakesPrefix-more _ _ _ _ (prefix_as _ _ _ _ middle c.in_err-put_three-2.ensures.part)))
 
 pub returns-in_err-put_three-3-clause-part : goal.returns-in_err-put_three-3-clause-part
 returns-in_err-put_three-3-clause-part g c =
     let place = c.args.place.now in
     let middle = place_is _ _ place.table place.key c.as_str.ensures c.as_str-2.ensures in
-    OnErr-always _ (TakesFront-after _ _ _ _ _ (told_as _ _ _ _ (start_is _ place.file c.name.ensures) c.in_ok-put_three.ensures.whole)
-    (TakesFront-after _ _ _ _ _ (told_as _ _ _ _ middle c.in_ok-put_three-2.ensures.whole)
-    (front_as _ _ _ _ (end_is _ place.why c.name-2.ensures) c.in_err-put_three-3.ensures.part)))
+    OnErr-always _ (TakesPrefix-after _ _ _ _ _ (told_as _ _ _ _ (start_is _ place.file c.name.ensures) c.in_ok-put_three.ensures.whole)
+    (TakesPrefix-after _ _ _ _ _ (told_as _ _ _ _ middle c.in_ok-put_three-2.ensures.whole)
+    (prefix_as _ _ _ _ (end_is _ place.why c.name-2.ensures) c.in_err-put_three-3.ensures.part)))
 
 pub returns-clause-whole : goal.returns-clause-whole
 returns-clause-whole g c =
     let place = c.args.place.now in
     let middle = place_is _ _ place.table place.key c.as_str.ensures c.as_str-2.ensures in
-    extended-next _ _ _ _ _ (told_as _ _ _ _ (start_is _ place.file c.name.ensures) c.in_ok-put_three.ensures.whole)
-    (extended-next _ _ _ _ _ (told_as _ _ _ _ middle c.in_ok-put_three-2.ensures.whole)
+    told_with-next _ _ _ _ _ (told_as _ _ _ _ (start_is _ place.file c.name.ensures) c.in_ok-put_three.ensures.whole)
+    (told_with-next _ _ _ _ _ (told_as _ _ _ _ middle c.in_ok-put_three-2.ensures.whole)
     (told_as _ _ _ _ (end_is _ place.why c.name-2.ensures) c.in_ok-put_three-3.ensures.whole))

@@ -3,8 +3,8 @@ use Rattle.std.proofs.lemmas.List.{map-append}
 use Rattle.std.proofs.lemmas.List.Folds.{list_all-append}
 use Rattle.policy_core.specs.declared.mx.MxRow.{MxRow}
 use Rattle.policy_core.specs.Mx.{has_hosts}
-use Rattle.mx_table.specs.inside.Joined.{domains}
-use Rattle.mx_table.proofs.JoinLemmas.{joins_none, joins_more, both_true}
+use Rattle.mx_table.specs.inside.Merged.{domains}
+use Rattle.mx_table.proofs.MergeLemmas.{joins_none, joins_more, both_true}
 use Rattle.mx_table.proofs.table.finished.Goals as goal
 
 pub loop-row-init : goal.loop-row-init

@@ -2,7 +2,7 @@ use Rattle.std.proofs.Common.{◌≡◌, IsTrue}
 use Rattle.std.specs.List.{list_all}
 use Rattle.policy_core.specs.Mx.{has_hosts}
 use Rattle.mx_table.specs.MxText.{Joins}
-use Rattle.mx_table.specs.inside.Joined.{domains}
+use Rattle.mx_table.specs.inside.Merged.{domains}
 use Rattle.mx_table.proofs.table.finished.Given as goal
 
 abbrev pub invariant-loop-row : goal.invariant-loop-row

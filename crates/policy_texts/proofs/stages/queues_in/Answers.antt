@@ -1,5 +1,5 @@
 use Rattle.std.proofs.lemmas.Result.{err_from_is_err_and}
-use Rattle.policy_core.specs.declared.fault.PolicyFile.TheVariants as file
+use Rattle.policy_fault.specs.declared.fault.PolicyFile.TheVariants as file
 use Rattle.policy_toml.specs.Reports.{reported}
 use Rattle.queues_policy.specs.QueuesFile.{QueuesFile, queues_file}
 use Rattle.policy_texts.proofs.Given.{too_many, given_ok, file_cause}

@@ -1,4 +1,4 @@
-use Rattle.policy_core.specs.declared.fault.PolicyFile.TheVariants as file
+use Rattle.policy_fault.specs.declared.fault.PolicyFile.TheVariants as file
 use Rattle.policy_toml.specs.Reports.{reported}
 use Rattle.sources_policy.specs.SourcesFile.{sources_file}
 use Rattle.policy_texts.specs.inside.Stages.{no_counts, texts_counts}

@@ -1,6 +1,6 @@
 use Rattle.std.proofs.Common.{◌≡◌, ◌==◌, length, false}
 use Rattle.shaping_policy.specs.RuleValues.{pattern_at}
-use Rattle.policy_core.specs.declared.fault.Why.TheVariants.{BadType}
+use Rattle.policy_fault.specs.declared.fault.Why.TheVariants.{BadType}
 use Rattle.shaping_policy.proofs.PatternLemmas.{listed}
 use Rattle.shaping_policy.proofs.patterns.note_list.Goals as goal
 

@@ -1,14 +1,10 @@
-use Rattle.std.proofs.Common.{◌≡◌, ℕ, sym, subst, Contains, []}
-use Rattle.turnstile.specs.Views.{whose, AllMet}
-use Rattle.turnstile.specs.Rule.{Knows}
-use Rattle.turnstile.specs.Entries.{own}
+use Rattle.std.proofs.Common.{sym}
+use Rattle.turnstile.proofs.Seats.{found}
 use Rattle.turnstile.proofs.stile.Turnstile.close.Goals as goal
 
-pub open_table-requires-clause-met : goal.open_table-requires-clause-met
-open_table-requires-clause-met g c = subst (λ m. AllMet m.0) (sym c.take_seat.ensures.view) c.requires.met
+pub unwrap-requires : goal.unwrap-requires
+unwrap-requires g c = (found g.T.Chronicle.shown _ _ _ _ _ _ c.take_seat.ensures.view c.close_with-closed.ensures.values.2 c.requires.first c.args.pass.resting.0 c.requires.idle c.requires.met c.take-slot.ensures.value).0
 
-pub returns-clause-own : goal.returns-clause-own
-returns-clause-own g c = let k = subst (λ m. Knows (g.T.Chronicle.shown c.open_table.result) m.0) c.take_seat.ensures.view c.open_table.ensures.knows in k.own
-
-pub returns-clause-others : goal.returns-clause-others
-returns-clause-others g c = subst (λ m. (w : ℕ) → ¬ Contains (whose m.0) w → own w (g.T.Chronicle.shown c.open_table.result).entries ≡ []) c.take_seat.ensures.view c.open_table.ensures.others
+pub returns : goal.returns
+returns g c = let h = (found g.T.Chronicle.shown _ _ _ _ _ _ c.take_seat.ensures.view c.close_with-closed.ensures.values.2 c.requires.first c.args.pass.resting.0 c.requires.idle c.requires.met c.take-slot.ensures.value).1 c.unwrap.result c.unwrap.ensures in
+    record { stem = sym h.0.stem; prefix = h.0.begins; own = h.0.own; others = h.1; numbers = h.0.counts }

@@ -1,6 +1,0 @@
-use Rattle.std.proofs.Common.{sym}
-use Rattle.shaping_merge.proofs.SameSite.{other_length}
-use Rattle.shaping_merge.proofs.domains.are_same_texts.Goals as goal
-
-pub returns-then-texts-others : goal.returns-then-texts-others
-returns-then-texts-others c = sym (other_length c.args.texts.now c.args.others.now c.if-texts-others.true)
