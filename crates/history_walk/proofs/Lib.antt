@@ -9,3 +9,5 @@ pub mod SamePaths
 pub mod KnownPaths
 pub mod ReadyCount
 pub mod Picks
+pub mod FiringWalks
+pub mod MatchWalks

@@ -20,6 +20,15 @@ along_from-more add before (e ∷ xs) x =
 pub along-more : {E A : Type 0} (add : List E → E → List A) (xs : List E) (x : E) → along add (xs ++ x ∷ []) ≡ along add xs ++ add xs x
 along-more add xs x = along_from-more add [] xs x
 
+-- where more than one comes
+pub along_from-append : {E A : Type 0} (add : List E → E → List A) (before xs ys : List E)
+    → along_from add before (xs ++ ys) ≡ along_from add before xs ++ along_from add (before ++ xs) ys
+along_from-append add before [] ys = ap (λ so_far. along_from add so_far ys) (sym (append-nil before))
+along_from-append add before (e ∷ xs) ys =
+    ap (λ rest. add before e ++ rest) (along_from-append add (before ++ e ∷ []) xs ys)
+    ∙ sym (append_assoc (add before e) (along_from add (before ++ e ∷ []) xs) (along_from add (before ++ e ∷ [] ++ xs) ys))
+    ∙ ap (λ so_far. (add before e ++ along_from add (before ++ e ∷ []) xs) ++ along_from add so_far ys) (append_assoc before (e ∷ []) xs)
+
 pub opened_moments-more : (h : List Entry) (e : Entry) (path : List ℕ) (key : ℕ)
     → opened_moments (h ++ e ∷ []) path key ≡ opened_moments h path key ++ opened_moments (e ∷ []) path key
 opened_moments-more h e path key =

@@ -15,7 +15,7 @@ source_picked pool None entrant e is within here = absurd cc
 source_picked pool (Some place) entrant e is within here =
     let same : entrant ≡ place.entrant = same_Some entrant place.entrant is in
     sym (ap (option_map (λ (x : Entrant). x.source)) (ap (slice_get pool.entrants) (sym same)
-        ∙ slice_get_read pool.entrants (length pool.entrants) entrant e refl within here))
+    ∙ slice_get_read pool.entrants (length pool.entrants) entrant e refl within here))
 
 pub picked : (turner : Turns) (pool : Pool) (flags eligible : List Bool) (place : Option Place) (result : Option ℕ) (entrant : ℕ)
     (e : Entrant) (source : List ℕ) → turner ≡ record { weights = weights_of pool; last = place } → flags ≡ eligible
@@ -24,6 +24,6 @@ pub picked : (turner : Turns) (pool : Pool) (flags eligible : List Bool) (place 
     → Some source ≡ option_and_then (source_at pool) (pick (rotation pool) eligible place)
 picked turner pool flags eligible place result entrant e source at same by is within here copied =
     ap Some copied ∙ source_picked pool (pick (rotation pool) eligible place) entrant e
-        (sym is ∙ by ∙ ap (λ fs. option_map (λ place. place.entrant) (next_place turner fs)) same
-            ∙ ap (λ turns. option_map (λ place. place.entrant) (next_place turns eligible)) at)
-        within here
+    (sym is ∙ by ∙ ap (λ fs. option_map (λ place. place.entrant) (next_place turner fs)) same
+    ∙ ap (λ turns. option_map (λ place. place.entrant) (next_place turns eligible)) at)
+    within here

@@ -1,9 +1,9 @@
 -- Buckets filled with the moments of a history, one more at a time.
-use Rattle.std.proofs.Common.{◌≡◌, ◌↔◌, ◌≤◌, ◌<◌, ◌⊎◌, inl, inr, refl, sym, ap, subst, ◌∙◌, ℕ, ◌+◌, List, [], ◌∷◌, ◌++◌, length, slice_index, Bool, true, false, IsTrue, Option, Some, None, option_map, option_to_list, arith, length-append}
+use Rattle.std.proofs.Common.{◌≡◌, ◌↔◌, ◌⊎◌, inl, inr, refl, sym, subst, ◌∙◌, ℕ, ◌+◌, List, [], ◌∷◌, ◌++◌, length, Bool, true, false, IsTrue, Option, Some, None, option_map, option_to_list, arith, length-append}
 use Rattle.std.proofs.lemmas.List.{get_or_append_left}
 use Rattle.kumo_base.specs.Limits.{latest_moment}
 use Rattle.kumo_base.specs.Moment.{clamped}
-use Rattle.throttle_spec.specs.Throttle.{Throttle, PairFits, Conforms, conforms, least_admitted}
+use Rattle.throttle_spec.specs.Throttle.{Throttle, Conforms, conforms, least_admitted}
 use Rattle.throttle_spec.specs.Bucket.{BucketState, StandsFor}
 use Rattle.throttle_spec.proofs.BucketLemmas.{conforms_decides, least_says}
 use Rattle.history_walk.specs.inside.Filled.{IsFilled}

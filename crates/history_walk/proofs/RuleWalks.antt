@@ -1,5 +1,5 @@
 -- Rules that set options one after another, and what the last of them says.
-use Rattle.std.proofs.Common.{◌≡◌, refl, sym, ap, ◌∙◌, ℕ, List, [], ◌∷◌, Option, Some, None, unwrap_or}
+use Rattle.std.proofs.Common.{◌≡◌, refl, sym, ◌∙◌, ℕ, List, [], ◌∷◌, Option, Some, None, unwrap_or}
 use Rattle.std.specs.Option.{option_or}
 use Rattle.policy_core.specs.Layers.{last_set}
 use Rattle.policy_core.specs.declared.rules.Rule.{Rule}

@@ -1,5 +1,5 @@
 -- Two sites are the same in either order.
-use Rattle.std.proofs.Common.{◌≡◌, refl, sym, ℕ, List, [], ◌∷◌, Bool, true, false, ◌&&◌, bytes_eq}
+use Rattle.std.proofs.Common.{◌≡◌, refl, sym, ℕ, List, [], ◌∷◌, Bool, true, false, bytes_eq}
 use Rattle.std.proofs.lemmas.Slice.Eq.{bytes_eq-Decides}
 use Rattle.policy_core.specs.declared.site.Site.{Site}
 use Rattle.policy_core.specs.Site.{are_same_texts, is_same_site}

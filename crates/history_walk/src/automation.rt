@@ -96,13 +96,7 @@ fn is_path_suspended(firings: &[RuleMatch], t: u64, path: &Path) -> bool
 }
 
 /// Whether an order or a firing halts a path, whose text is `text`. `firings` are those of the history.
-pub fn is_halted(
-    entries: &[Entry],
-    firings: &[RuleMatch],
-    t: u64,
-    path: &Path,
-    text: &str,
-) -> bool
+pub fn is_halted(entries: &[Entry], firings: &[RuleMatch], t: u64, path: &Path, text: &str) -> bool
     requires { text.now ≡ text_of path.now }
     ensures { result ≡ (is_suspended entries.now t text.now
         || list_any (λ f. is_suspend f.rule.action && is_same_path f.path path.now) (filter (is_in_force t) firings.now)) }

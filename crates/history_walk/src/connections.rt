@@ -126,7 +126,10 @@ fn begins_on(entry: &Entry, conn: u64) -> bool
 pub fn used(entries: &[Entry], conn: u64) -> usize
     ensures { result ≡ used entries.now conn }
 {
-    entries.iter().filter(|entry| begins_on(entry, conn)).count()
+    entries
+        .iter()
+        .filter(|entry| begins_on(entry, conn))
+        .count()
 }
 
 /// Since when a connection has had nothing to send, after an entry.
@@ -208,7 +211,10 @@ fn opens_on(entries: &[Entry], entry: &Entry, text: &str) -> bool
 fn openings_on(entries: &[Entry], text: &str) -> usize
     ensures { result ≡ count_by (λ e. some_passes (λ c. bytes_eq c.path text.now) (open_in entries.now e)) entries.now }
 {
-    entries.iter().filter(|entry| opens_on(entries, entry, text)).count()
+    entries
+        .iter()
+        .filter(|entry| opens_on(entries, entry, text))
+        .count()
 }
 
 /// How many connections of the path of a text are open.

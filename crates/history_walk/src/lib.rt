@@ -5,7 +5,9 @@
 mod automation;
 mod candidates;
 mod connections;
+mod examine;
 mod limits;
+mod matching;
 mod messages;
 mod openable;
 mod orders;

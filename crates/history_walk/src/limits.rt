@@ -21,13 +21,7 @@ pub fn limits_in_force(firings: &[RuleMatch], t: u64, path: &Path, base: &PathBa
 }
 
 /// Sets the options that rules in force set, each over those before it. Rules are numbered from 1.
-fn set_by_rules(
-    now: &mut InForce,
-    firings: &[RuleMatch],
-    t: u64,
-    path: &Path,
-    rules: &[Rule],
-)
+fn set_by_rules(now: &mut InForce, firings: &[RuleMatch], t: u64, path: &Path, rules: &[Rule])
     ensures { now.new ≡ with_rules (filter (λ r. is_rule_among (filter (is_in_force t) firings.now) path.now r.0)
         (enumerate_from 1 rules.now)) now.old }
 {

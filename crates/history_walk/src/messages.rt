@@ -91,7 +91,11 @@ fn fails(entry: &Entry, id: u128) -> bool
     ensures { result ≡ is_this (failed_in entry.now.what) id }
 {
     match &entry.what {
-        Event::Ended { id: of, outcome, .. } => *of == id && is_failure(outcome),
+        Event::Ended {
+            id: of,
+            outcome,
+            ..
+        } => *of == id && is_failure(outcome),
         Event::Delayed { id: of, .. } => *of == id,
         _ => false,
     }
@@ -115,7 +119,9 @@ fn failures_after(id: u128, was: u32, entry: &Entry) -> u32
 {
     match &entry.what {
         Event::Recovered {
-            message, failures, ..
+            message,
+            failures,
+            ..
         } if message.id == id => *failures,
         Event::Recovered { .. } => was,
         _ if fails(entry, id) => was.saturating_add(1),

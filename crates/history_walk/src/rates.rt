@@ -20,7 +20,11 @@ pub fn admits_opening(entries: &[Entry], text: &str, now: &InForce, t: u64) -> b
     ensures { result ≡ admits now.now.connection_rate (opened_moments entries.now text.now now.now.connection_key) t }
 {
     match now.connection_rate {
-        Some(rate) => admits(&opened_bucket(entries, text, now.connection_key, &rate), &rate, t),
+        Some(rate) => admits(
+            &opened_bucket(entries, text, now.connection_key, &rate),
+            &rate,
+            t,
+        ),
         None => true,
     }
 }
@@ -31,7 +35,11 @@ pub fn next_opening(entries: &[Entry], text: &str, now: &InForce, t: u64) -> u64
     ensures { result ≡ least_by_rate now.now.connection_rate (opened_moments entries.now text.now now.now.connection_key) t }
 {
     match now.connection_rate {
-        Some(rate) => next(&opened_bucket(entries, text, now.connection_key, &rate), &rate, t),
+        Some(rate) => next(
+            &opened_bucket(entries, text, now.connection_key, &rate),
+            &rate,
+            t,
+        ),
         None => t.min(LAST_MOMENT),
     }
 }
@@ -41,7 +49,11 @@ pub fn admits_beginning(entries: &[Entry], text: &str, now: &InForce, t: u64) ->
     ensures { result ≡ admits now.now.message_rate (begun_moments entries.now text.now now.now.message_key) t }
 {
     match now.message_rate {
-        Some(rate) => admits(&begun_bucket(entries, text, now.message_key, &rate), &rate, t),
+        Some(rate) => admits(
+            &begun_bucket(entries, text, now.message_key, &rate),
+            &rate,
+            t,
+        ),
         None => true,
     }
 }
@@ -52,7 +64,11 @@ pub fn next_beginning(entries: &[Entry], text: &str, now: &InForce, t: u64) -> u
     ensures { result ≡ least_by_rate now.now.message_rate (begun_moments entries.now text.now now.now.message_key) t }
 {
     match now.message_rate {
-        Some(rate) => next(&begun_bucket(entries, text, now.message_key, &rate), &rate, t),
+        Some(rate) => next(
+            &begun_bucket(entries, text, now.message_key, &rate),
+            &rate,
+            t,
+        ),
         None => t.min(LAST_MOMENT),
     }
 }
@@ -95,9 +111,11 @@ fn beginning_moment(before: &[Entry], entry: &Entry, text: &str, key: u32) -> Op
     ensures { option_to_list (option_map clamped result) ≡ begun_at text.now key before.now entry.now }
 {
     match &entry.what {
-        Event::Begun { conn, key: under, .. } if *under == key && is_on_path(before, *conn, text) => {
-            Some(entry.at)
-        }
+        Event::Begun {
+            conn,
+            key: under,
+            ..
+        } if *under == key && is_on_path(before, *conn, text) => { Some(entry.at) }
         _ => None,
     }
 }

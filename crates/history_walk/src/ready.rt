@@ -102,13 +102,7 @@ pub fn is_free(
 }
 
 /// Whether there is a message of the id that nothing holds back.
-fn is_free_id(
-    policy: &Policy,
-    entries: &[Entry],
-    firings: &[RuleMatch],
-    t: u64,
-    id: u128,
-) -> bool
+fn is_free_id(policy: &Policy, entries: &[Entry], firings: &[RuleMatch], t: u64, id: u128) -> bool
     requires { firings.now ≡ all_firings policy.now entries.now }
     ensures { result ≡ is_free_id policy.now entries.now t id }
 {

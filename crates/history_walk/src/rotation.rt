@@ -89,8 +89,11 @@ fn turn_by(
     turner: &mut Turner,
 ) -> Result<(), Memory>
     requires { turner.old.weights ≡ weights_of pool.now }
-    ensures { OnOk result (turner.new ≡ record { weights = weights_of pool.now; last = fold (turned pool.now)
-        turner.old.last (source_taken policy.now pool.now before.now (promotion_in entry.now.what)) }) }
+    ensures { OnOk result (turner.new ≡ record {
+      weights = weights_of pool.now;
+      last = fold (turned pool.now)
+          turner.old.last (source_taken policy.now pool.now before.now (promotion_in entry.now.what));
+    }) }
 {
     match source_taken(policy, pool, before, entry) {
         Some(source) => turn(alloc, pool, source, turner),
@@ -111,7 +114,14 @@ fn turner_of(
 {
     let mut turner = Turner::new(alloc, pool)?;
     for place in 0..entries.len() {
-        turn_by(alloc, policy, pool, &entries[..place], &entries[place], &mut turner)?;
+        turn_by(
+            alloc,
+            policy,
+            pool,
+            &entries[..place],
+            &entries[place],
+            &mut turner,
+        )?;
     }
     Ok(turner)
 }

@@ -164,8 +164,12 @@ may_open m at_0 = record {
 verdict_is : (m : Message) → verdict plain_policy (after_opening m) 0 1 ≡ Some (work m.id)
 verdict_is m =
     let is_ready = ready_after_opening m in
-    rw (named m (after_opening m) 0 is_ready, limits_are (after_opening m) 0 (its_path m),
-    is_its_text m, first_is m (after_opening m) 0 is_ready) refl
+    rw (
+      named m (after_opening m) 0 is_ready,
+      limits_are (after_opening m) 0 (its_path m),
+      is_its_text m,
+      first_is m (after_opening m) 0 is_ready,
+    ) refl
 
 pub may_begin : (m : Message) → MayFollow plain_policy (after_opening m) (entry (event.Begun 1 m.id 0))
 may_begin m = record {

@@ -1,5 +1,5 @@
 -- Options that rules set, one rule after another.
-use Rattle.std.specs.Prelude.{ℕ, List, [], ◌∷◌, unwrap_or, option_map, fold}
+use Rattle.std.specs.Prelude.{ℕ, List, [], ◌∷◌, unwrap_or, option_map}
 use Rattle.std.specs.Option.{option_or}
 use Rattle.policy_core.specs.declared.rules.Rule.{Rule}
 use Rattle.policy_core.specs.declared.rules.Setting.{Setting}

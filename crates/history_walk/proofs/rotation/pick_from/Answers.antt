@@ -15,8 +15,13 @@ returns-in-Some c =
     c.index-as_slice-entrant.result c.in_ok-copy-in-Some.field-0 refl refl
     (grind (arith, c.pick.ensures.picked, c.in_ok-turner.ensures, c.in_ok-flags.ensures, c.as_slice.ensures.value))
     (grind (arith, c.in-Some.is))
-    (grind (arith, c.in-Some.ensures.within, c.in_ok-flags.ensures, c.as_slice.ensures.value,
-        length-map c.args.pool.now.entrants
-            (λ (e : Entrant). has_room c.args.policy.now c.args.entries.now c.args.t (path_for c.args.policy.now c.args.message.now e.source))))
+    (grind (
+      arith,
+      c.in-Some.ensures.within,
+      c.in_ok-flags.ensures,
+      c.as_slice.ensures.value,
+      length-map c.args.pool.now.entrants
+          (λ (e : Entrant). has_room c.args.policy.now c.args.entries.now c.args.t (path_for c.args.policy.now c.args.message.now e.source)),
+    ))
     (grind (arith, c.index-as_slice-entrant.is, c.as_slice-in-Some.ensures))
     (grind (arith, c.in_ok-copy-in-Some.ensures))

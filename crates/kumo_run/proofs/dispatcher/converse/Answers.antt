@@ -11,6 +11,7 @@ use Rattle.smtp_dialogue.specs.Transcript.{greeting, attempted, parting, before_
 use Rattle.smtp_dialogue.specs.Speaks.{Side, side, Speaks}
 use Rattle.policy_core.specs.Limits.{localhost}
 use Rattle.kumo_run.specs.inside.OneMessage.{IsFreshLink, Converses, Parts}
+use Rattle.kumo_run.proofs.StepLemmas.{may_begin}
 use Rattle.kumo_run.proofs.SessionLemmas.{speaks_before_parting, tells_refused, tells_lost, tells_delivered, tells_undelivered}
 use Rattle.kumo_run.proofs.dispatcher.converse.Goals as goal
 
@@ -48,6 +49,9 @@ not_true false e = refl
 not_false : (b : Bool) → not b ≡ false → b ≡ true
 not_false true e = refl
 not_false false e = absurd cc
+
+pub begin-requires-clause-follows : goal.begin-requires-clause-follows
+begin-requires-clause-follows g c = rw c.requires.history (may_begin c.args.message.now)
 
 pub returns-in-Refused-clause-told : goal.returns-in-Refused-clause-told
 returns-in-Refused-clause-told g c = λ fresh.
