@@ -1,5 +1,5 @@
 -- What one more entry changes: promotions, paths, the sources taken, and the openings and closings of a path.
-use Rattle.std.proofs.Common.{◌≡◌, ℕ, ◌+◌, ◌<◌, List, [], ◌∷◌, ◌++◌, fold, take, get_or, length, Option, None, ap, ◌∙◌, sym, append_assoc, append-nil}
+use Rattle.std.proofs.Common.{◌≡◌, ℕ, ◌+◌, ◌<◌, List, [], ◌∷◌, ◌++◌, fold, take, get_or, length, Option, None, ap, ◌∙◌, sym}
 use Rattle.std.proofs.lemmas.List.{take_more}
 use Rattle.std.proofs.lemmas.List.Sums.{fold-append}
 use Rattle.policy_core.specs.Policy.{Policy}
@@ -8,19 +8,9 @@ use Rattle.history_core.specs.declared.entry.Entry.{Entry}
 use Rattle.history_core.specs.declared.path.Path.{Path}
 use Rattle.history_core.specs.declared.path.Promoted.{Promoted}
 use Rattle.history_core.specs.Events.{promotion_in}
-use Rattle.history_core.specs.History.{along_from, along, promoted_at, promotions, with_path, paths}
+use Rattle.history_core.specs.History.{along, promoted_at, promotions, with_path, paths}
 use Rattle.history_core.specs.Candidates.{turned, source_taken, sources_taken, place_of, passage_at, passages, Passage, refused_at, last_refusal, run_after, refusals}
-
-along_from-more : {E A : Type 0} (add : List E → E → List A) (before xs : List E) (x : E)
-    → along_from add before (xs ++ x ∷ []) ≡ along_from add before xs ++ add (before ++ xs) x
-along_from-more add before [] x = append-nil (add before x) ∙ ap (λ so_far. add so_far x) (sym (append-nil before))
-along_from-more add before (e ∷ xs) x =
-    ap (λ rest. add before e ++ rest) (along_from-more add (before ++ e ∷ []) xs x)
-    ∙ sym (append_assoc (add before e) (along_from add (before ++ e ∷ []) xs) (add (before ++ e ∷ [] ++ xs) x))
-    ∙ ap (λ so_far. (add before e ++ along_from add (before ++ e ∷ []) xs) ++ add so_far x) (append_assoc before (e ∷ []) xs)
-
-pub along-more : {E A : Type 0} (add : List E → E → List A) (xs : List E) (x : E) → along add (xs ++ x ∷ []) ≡ along add xs ++ add xs x
-along-more add xs x = along_from-more add [] xs x
+use Rattle.history_walk.proofs.OneMore.{along-more}
 
 -- a fold over what items add up to goes on by what one more adds
 pub fold_along-more : {E A B : Type 0} (f : B → A → B) (start : B) (add : List E → E → List A) (xs : List E) (x : E)
