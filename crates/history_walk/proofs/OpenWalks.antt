@@ -1,8 +1,8 @@
 -- Open connections, entry by entry.
-use Rattle.std.proofs.Common.{◌≡◌, ℕ, List, [], ◌∷◌, Bool, true, false, not, Option, Some, None, option_and_then, filter, filter_map, count_by, length, bytes_eq, refl, sym, ap, ◌∙◌, if◌then◌else◌}
+use Rattle.std.proofs.Common.{◌≡◌, ℕ, List, [], ◌∷◌, Bool, true, false, not, Option, Some, None, is_none, option_and_then, filter, filter_map, count_by, length, bytes_eq, refl, sym, ap, ◌∙◌, if◌then◌else◌}
 use Rattle.history_core.specs.declared.entry.Entry.{Entry}
-use Rattle.history_core.specs.Connection.{Connection, connection_in, is_closed, open_anywhere, open_connections}
-use Rattle.history_walk.specs.Opened.{some_passes, open_in}
+use Rattle.history_core.specs.Connection.{Connection, connection_in, is_closed, busy_with, open_anywhere, open_connections}
+use Rattle.history_walk.specs.Opened.{some_passes, open_in, idle_in}
 use Rattle.history_walk.proofs.ListWalks.{kept, filter-given, counted-given}
 
 open_or : (c : Connection) (closed : Bool) → (if not closed then Some c else None) ≡ (if closed then None else Some c)
@@ -30,3 +30,10 @@ pub open-counted : (h : List Entry) (text : List ℕ)
 open-counted h text =
     counted-given (λ (c : Connection). bytes_eq c.path text) (open_in h) h
     ∙ ap (λ (cs : List Connection). length (filter (λ c. bytes_eq c.path text) cs)) (sym (open-given h h))
+
+-- those of them that are not busy are what the entries give of them
+pub idle_given : (h later : List Entry)
+    → filter (λ c. is_none (busy_with h c.number)) (filter (λ c. not (is_closed h c.number)) (filter_map connection_in later)) ≡ filter_map (idle_in h) later
+idle_given h later =
+    ap (λ (cs : List Connection). filter (λ c. is_none (busy_with h c.number)) cs) (open-given h later)
+    ∙ filter-given (λ (c : Connection). is_none (busy_with h c.number)) (open_in h) later

@@ -6,6 +6,7 @@ mod automation;
 mod candidates;
 mod connections;
 mod examine;
+mod kept;
 mod limits;
 mod matching;
 mod messages;
