@@ -18,4 +18,5 @@ mod ready;
 mod refusals;
 mod rotation;
 mod scene;
+mod sweep;
 mod verdict;
