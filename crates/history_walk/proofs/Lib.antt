@@ -12,3 +12,4 @@ pub mod Picks
 pub mod FiringWalks
 pub mod MatchWalks
 pub mod LeastPaths
+pub mod SoonestLemmas

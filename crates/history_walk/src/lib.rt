@@ -13,6 +13,7 @@ mod messages;
 mod openable;
 mod orders;
 mod paths;
+mod promotion;
 mod rates;
 mod ready;
 mod refusals;
