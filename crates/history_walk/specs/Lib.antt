@@ -6,4 +6,5 @@ pub mod Examined
 pub mod Scene
 pub mod Verdicts
 pub mod Soonest
+pub mod Marks
 pub mod inside

@@ -21,3 +21,4 @@ mod rotation;
 mod scene;
 mod sweep;
 mod verdict;
+mod wake;
