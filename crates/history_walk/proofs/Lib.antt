@@ -13,3 +13,4 @@ pub mod FiringWalks
 pub mod MatchWalks
 pub mod LeastPaths
 pub mod SoonestLemmas
+pub mod WakeLemmas

@@ -3,14 +3,14 @@
 //! `Known` and the firings are found first, with memory and a search; nothing of a scene takes either.
 ghost use Rattle.std.specs.Prelude.{◌≡◌, nat_lt, length, List, ◌∷◌, map, option_map, IfSome, All};
 ghost use Rattle.history_core.specs.declared.path.Path.{Path as way};
-ghost use Rattle.history_core.specs.History.{text_of, path_named};
+ghost use Rattle.history_core.specs.History.{text_of, path_named, paths};
 ghost use Rattle.history_core.specs.Connection.{open_connections};
-ghost use Rattle.history_core.specs.Firing.{is_halted, is_free};
+ghost use Rattle.history_core.specs.Firing.{is_halted, is_free, firings as all_firings};
 ghost use Rattle.history_core.specs.Limits.{limits};
 ghost use Rattle.history_core.specs.Ready.{first_free};
 ghost use Rattle.history_core.specs.Openable.{admits_opening, admits_beginning, next_beginning, is_openable, next_to_open};
 ghost use Rattle.history_core.specs.Wake.{next_opening};
-ghost use Rattle.history_walk.specs.Known.{known_path};
+ghost use Rattle.history_walk.specs.Known.{known_path, IsKnown};
 ghost use Rattle.history_walk.specs.Scene.{IsFound, rank_in, least_openable, least_so_far};
 
 use crate::automation;
@@ -71,6 +71,34 @@ impl<'h> Scene<'h> {
         ensures { result.now ≡ self.now.history }
     {
         self.entries
+    }
+
+    /// The policy.
+    pub fn policy(&self) -> &'h Policy
+        ensures { result.now ≡ self.now.policy }
+    {
+        self.policy
+    }
+
+    /// The firings that the history comes to.
+    pub fn firings(&self) -> &'h [RuleMatch]
+        ensures { result.now ≡ all_firings self.now.policy self.now.history }
+    {
+        self.firings
+    }
+
+    /// What is known of the history's promotions and paths.
+    pub fn known(&self) -> &'h Known
+        ensures { IsKnown self.now.policy self.now.history result.now }
+    {
+        self.known
+    }
+
+    /// The paths that messages were promoted to, in order of their first promotion.
+    pub fn paths(&self) -> &'h [KnownPath]
+        ensures { result.now ≡ map (known_path self.now.policy) (paths self.now.policy self.now.history) }
+    {
+        self.known.paths()
     }
 
     /// The moment, in milliseconds since 1970.

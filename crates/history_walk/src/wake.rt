@@ -3,7 +3,7 @@ ghost use Rattle.std.specs.Prelude.{◌≡◌, ◌∷◌, List, fold, map, All};
 ghost use Rattle.history_core.specs.declared.entry.Entry.{Entry as an_entry};
 ghost use Rattle.history_core.specs.declared.path.Path.{Path as a_path};
 ghost use Rattle.history_core.specs.declared.rule_match.RuleMatch.{RuleMatch as a_match};
-ghost use Rattle.history_core.specs.Wake.{due_marks, age_marks, order_marks, stale_marks, stale_mark, earlier_after};
+ghost use Rattle.history_core.specs.Wake.{due_marks, age_marks, order_marks, stale_marks, stale_mark, earlier_after, wake};
 ghost use Rattle.history_walk.specs.Known.{known_path};
 ghost use Rattle.history_walk.specs.Opened.{connection_of};
 ghost use Rattle.history_walk.specs.Marks.{due_marks_among, age_marks_among, order_marks_among, firing_marks_among, rate_marks_among, stale_marks_among};
@@ -198,4 +198,22 @@ fn earliest_stop(stops: &[u64], t: u64, first: u64) -> u64
         best = earlier_after(t, best, *stop);
     }
     best
+}
+
+impl<'h> Scene<'h> {
+    /// The moment up to which nothing may happen by itself: the first after the present one at which something may change, or at
+    /// which the policy stops, and `LAST_MOMENT` where there is none.
+    #[tactic(auto, using(crate::proofs::LeastPaths::known_all))]
+    pub fn wake(&self) -> u64
+        ensures { result ≡ wake self.now.policy self.now.history self.now.moment }
+    {
+        let t = self.moment();
+        let due = earliest_due(self.entries(), t, LAST_MOMENT);
+        let age = earliest_age(self.policy(), self.entries(), t, due);
+        let order = earliest_order(self.entries(), t, age);
+        let firing = earliest_firing(self.firings(), t, order);
+        let rate = earliest_rate(self, self.paths(), firing);
+        let stale = earliest_stale(self, self.entries(), rate);
+        earliest_stop(self.policy().stops.as_slice(), t, stale)
+    }
 }
