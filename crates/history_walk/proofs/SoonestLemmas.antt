@@ -6,7 +6,7 @@ use Rattle.history_core.specs.declared.entry.Entry.{Entry}
 use Rattle.history_core.specs.Retry.{due}
 use Rattle.history_core.specs.Candidates.{is_promotable}
 use Rattle.history_core.specs.Openable.{lesser, least_by}
-use Rattle.history_walk.specs.Soonest.{soonest_among, soonest_so_far, soonest_with, is_no_later}
+use Rattle.history_walk.specs.inside.Soonest.{soonest_among, soonest_so_far, soonest_with, is_no_later}
 use Rattle.history_walk.proofs.LeastPaths.{lesser_twice}
 
 module _ (policy : Policy) (h : List Entry) (t : ℕ) where

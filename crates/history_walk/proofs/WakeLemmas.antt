@@ -12,7 +12,7 @@ use Rattle.history_core.specs.Wake.{due_marks, age_marks, order_marks, firing_ma
 use Rattle.history_walk.specs.declared.paths.KnownPath.{KnownPath}
 use Rattle.history_walk.specs.Known.{known_path}
 use Rattle.history_walk.specs.Scene.{SceneState}
-use Rattle.history_walk.specs.Marks.{firing_marks_among, rate_marks_among}
+use Rattle.history_walk.specs.inside.Marks.{firing_marks_among, rate_marks_among}
 use Rattle.history_walk.proofs.LeastPaths.{paths_of_known}
 
 -- seven lists one behind another
@@ -38,11 +38,11 @@ module _ (s : SceneState) (t : ℕ) (now : t ≡ s.moment) where
   wake_is due age order firing rate stale stop fired ks are known e1 e2 e3 e4 e5 e6 e7 =
       let h = s.history in
       let at_order : order ≡ from (from (from latest_moment (due_marks h)) (age_marks s.policy h)) (order_marks h t) =
-          e3 ∙ ap (λ (b : ℕ). from b (order_marks h t)) (e2 ∙ ap (λ (b : ℕ). from b (age_marks s.policy h)) e1) in
+      e3 ∙ ap (λ (b : ℕ). from b (order_marks h t)) (e2 ∙ ap (λ (b : ℕ). from b (age_marks s.policy h)) e1) in
       let at_firing : firing ≡ from (from (from (from latest_moment (due_marks h)) (age_marks s.policy h)) (order_marks h t)) (firing_marks s.policy h t) =
-          e4 ∙ ap (λ (fs : List RuleMatch). from order (firing_marks_among t fs)) are ∙ ap (λ (b : ℕ). from b (firing_marks s.policy h t)) at_order in
+      e4 ∙ ap (λ (fs : List RuleMatch). from order (firing_marks_among t fs)) are ∙ ap (λ (b : ℕ). from b (firing_marks s.policy h t)) at_order in
       let at_rate : rate ≡ fold (earlier_after s.moment) firing (rate_marks s.policy h s.moment) =
-          e5 ∙ ap (λ (ps : List Path). fold (earlier_after s.moment) firing (rate_marks_among s ps)) (paths_of_known s.policy h ks known) in
+      e5 ∙ ap (λ (ps : List Path). fold (earlier_after s.moment) firing (rate_marks_among s ps)) (paths_of_known s.policy h ks known) in
       let at_stop : stop ≡ from (fold (earlier_after s.moment) (fold (earlier_after s.moment) firing (rate_marks s.policy h s.moment)) (stale_marks s.policy h s.moment)) s.policy.stops =
-          e7 ∙ ap (λ (b : ℕ). from b s.policy.stops) (e6 ∙ ap (λ (b : ℕ). fold (earlier_after s.moment) b (stale_marks s.policy h s.moment)) at_rate) in
+      e7 ∙ ap (λ (b : ℕ). from b s.policy.stops) (e6 ∙ ap (λ (b : ℕ). fold (earlier_after s.moment) b (stale_marks s.policy h s.moment)) at_rate) in
       at_stop ∙ rw (at_firing, now) (sym (fold_parts (earlier_after s.moment) latest_moment (due_marks h) (age_marks s.policy h) (order_marks h s.moment) (firing_marks s.policy h s.moment) (rate_marks s.policy h s.moment) (stale_marks s.policy h s.moment) s.policy.stops))

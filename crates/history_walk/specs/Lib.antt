@@ -5,6 +5,4 @@ pub mod Known
 pub mod Examined
 pub mod Scene
 pub mod Verdicts
-pub mod Soonest
-pub mod Marks
 pub mod inside

@@ -2,3 +2,5 @@
 pub mod Setting
 pub mod Filled
 pub mod Refused
+pub mod Soonest
+pub mod Marks

@@ -7,7 +7,7 @@ ghost use Rattle.history_core.specs.Sweep.{next_promoted, next_swept};
 ghost use Rattle.history_core.specs.Firing.{firings as all_firings};
 ghost use Rattle.history_core.specs.Candidates.{pick_for};
 ghost use Rattle.history_walk.specs.Known.{IsKnown};
-ghost use Rattle.history_walk.specs.Soonest.{soonest_among, soonest_with, pending_among, is_no_later};
+ghost use Rattle.history_walk.specs.inside.Soonest.{soonest_among, soonest_with, pending_among, is_no_later};
 
 use crate::candidates::is_waiting;
 use crate::messages::{due, pending_by};

@@ -13,13 +13,11 @@ ghost use Rattle.history_core.specs.Wake.{next_opening};
 ghost use Rattle.history_walk.specs.Known.{known_path, IsKnown};
 ghost use Rattle.history_walk.specs.Scene.{IsFound, rank_in, least_openable, least_so_far};
 
-use crate::automation;
 use crate::connections::open_count;
 use crate::limits::limits_in_force;
 use crate::openable::opened_rank;
 use crate::paths::{Known, KnownPath, known_path_named};
-use crate::rates;
-use crate::ready;
+use crate::{automation, rates, ready};
 use history_core::{Entry, RuleMatch};
 use policy_core::{InForce, Policy};
 use queue_name::Message;

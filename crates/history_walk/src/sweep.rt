@@ -23,7 +23,11 @@ pub fn is_aged(policy: &Policy, t: u64, message: &Message) -> bool
     ensures { result ≡ is_aged policy.now t message.now }
 {
     let ages = ages_of(&policy.queues, &message.name);
-    message.created.saturating_add(ages.max_age).min(LAST_MOMENT) < t
+    message
+        .created
+        .saturating_add(ages.max_age)
+        .min(LAST_MOMENT)
+        < t
 }
 
 /// What comes of a failure of a message at a moment.

@@ -6,7 +6,7 @@ ghost use Rattle.history_core.specs.declared.rule_match.RuleMatch.{RuleMatch as 
 ghost use Rattle.history_core.specs.Wake.{due_marks, age_marks, order_marks, stale_marks, stale_mark, earlier_after, wake};
 ghost use Rattle.history_walk.specs.Known.{known_path};
 ghost use Rattle.history_walk.specs.Opened.{connection_of};
-ghost use Rattle.history_walk.specs.Marks.{due_marks_among, age_marks_among, order_marks_among, firing_marks_among, rate_marks_among, stale_marks_among};
+ghost use Rattle.history_walk.specs.inside.Marks.{due_marks_among, age_marks_among, order_marks_among, firing_marks_among, rate_marks_among, stale_marks_among};
 
 use crate::automation::is_in_force;
 use crate::connections::{Opened, idle_by, idle_since, is_in_flight};

@@ -5,7 +5,7 @@ use Rattle.history_walk.proofs.scene.least_openable.Given as goal
 
 abbrev pub invariant-loop-path : goal.invariant-loop-path
 invariant-loop-path l = record {
-    least : least_openable l.scene (map (λ k. k.path) l.paths)
-        ≡ least_so_far l.scene (option_map (λ k. k.now.path) l.best) (least_openable l.scene (map (λ k. k.path) (drop l.path-index l.paths)));
-    known : IfSome l.best (λ k. k.now ≡ known_path l.scene.policy k.now.path);
-  }
+  least : least_openable l.scene (map (λ k. k.path) l.paths)
+      ≡ least_so_far l.scene (option_map (λ k. k.now.path) l.best) (least_openable l.scene (map (λ k. k.path) (drop l.path-index l.paths)));
+  known : IfSome l.best (λ k. k.now ≡ known_path l.scene.policy k.now.path);
+}

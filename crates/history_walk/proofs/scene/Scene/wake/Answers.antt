@@ -7,7 +7,7 @@ use Rattle.history_walk.proofs.scene.Scene.wake.Goals as goal
 pub returns : goal.returns
 returns c =
     let stops : c.as_slice.result.now ≡ c.args.self.now.policy.stops =
-        c.as_slice.ensures ∙ ap (λ (p : Policy). p.stops) c.behind-self.view_is ∙ ap (λ (p : Policy). p.stops) c.policy-2.ensures in
+    c.as_slice.ensures ∙ ap (λ (p : Policy). p.stops) c.behind-self.view_is ∙ ap (λ (p : Policy). p.stops) c.policy-2.ensures in
     wake_is c.args.self.now c.moment-t.result c.moment-t.ensures _ _ _ _ _ _ _ c.firings.result.now c.paths.result.now c.firings.ensures c.paths.ensures
     (rw c.entries.ensures at c.earliest_due-due.ensures)
     (rw (c.policy.ensures, c.entries-2.ensures) at c.earliest_age-age.ensures)

@@ -2,7 +2,7 @@ use Rattle.std.proofs.Common.{◌≡◌, ◌∙◌, ◌+◌, ◌∷◌, ◌++◌
 use Rattle.std.proofs.lemmas.List.{take_more}
 use Rattle.history_walk.specs.Examined.{IsExamined}
 use Rattle.history_walk.proofs.MatchWalks.{examined_more}
-use Rattle.history_walk.proofs.examine.examine.Goals as goal
+use Rattle.history_walk.proofs.replies.examine.Goals as goal
 
 pub returns-in-Ok-clause-ok : goal.returns-in-Ok-clause-ok
 returns-in-Ok-clause-ok g c =

@@ -1,7 +1,7 @@
 use Rattle.std.proofs.Common.{◌≡◌, ◌++◌, take, drop}
 use Rattle.history_core.specs.History.{along_from}
 use Rattle.history_core.specs.Firing.{fired_at}
-use Rattle.history_walk.proofs.examine.firings_among.Given as goal
+use Rattle.history_walk.proofs.replies.firings_among.Given as goal
 
 abbrev pub invariant-loop-place : goal.invariant-loop-place
 invariant-loop-place l =

@@ -1,7 +1,7 @@
 use Rattle.std.proofs.Common.{◌≡◌, ◌+◌, ◌≤◌, drop, map, filter, count_by, nat_lt}
 use Rattle.kumo_base.specs.Moment.{clamped}
 use Rattle.history_core.specs.Firing.{is_same_rule}
-use Rattle.history_walk.proofs.examine.count_within.Given as goal
+use Rattle.history_walk.proofs.replies.count_within.Given as goal
 
 abbrev pub invariant-loop-was : goal.invariant-loop-was
 invariant-loop-was l = record {
