@@ -14,3 +14,4 @@ pub mod MatchWalks
 pub mod LeastPaths
 pub mod SoonestLemmas
 pub mod WakeLemmas
+pub mod NoneFound

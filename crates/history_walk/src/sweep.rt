@@ -65,7 +65,7 @@ fn first_resolvable<'h>(policy: &Policy, entries: &'h [Entry], t: u64) -> Option
 }
 
 /// How a message is resolved: the bounce comes before the age.
-fn how_by(bounce: Option<u32>) -> How
+pub fn how_by(bounce: Option<u32>) -> How
     ensures { result ≡ how_by bounce }
 {
     match bounce {
