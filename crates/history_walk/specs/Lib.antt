@@ -5,4 +5,5 @@ pub mod Known
 pub mod Examined
 pub mod Scene
 pub mod Verdicts
+pub mod Breaches
 pub mod inside

@@ -4,3 +4,4 @@ pub mod Filled
 pub mod Refused
 pub mod Soonest
 pub mod Marks
+pub mod Settling

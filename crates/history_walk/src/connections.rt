@@ -165,7 +165,8 @@ pub fn open_by<'h>(entries: &[Entry], entry: &'h Entry) -> Option<Opened<'h>>
 
 /// Whether some connection is open.
 pub fn has_open(entries: &[Entry]) -> bool
-    ensures { IsTrue result ↔ (open_anywhere entries.now ≢ []) }
+    ensures some { IsTrue result ↔ (open_anywhere entries.now ≢ []) }
+    ensures none { result ≡ false ↔ (open_anywhere entries.now ≡ []) }
 {
     for entry in entries {
         if open_by(entries, entry).is_some() {

@@ -8,19 +8,19 @@ ghost use Rattle.history_core.specs.Connection.{connections, busy_with, IsLiveFo
 ghost use Rattle.history_core.specs.Limits.{limits};
 ghost use Rattle.history_core.specs.Retry.{next_after};
 ghost use Rattle.history_core.specs.Candidates.{is_delayable};
-ghost use Rattle.history_core.specs.Openable.{is_openable, next_to_open, reusable, verdict, work};
-ghost use Rattle.history_core.specs.Legal.{OpenedRow, ClosedCause, PendingMessage, RestedRow};
+ghost use Rattle.history_core.specs.Openable.{is_openable, next_to_open, reusable, verdict, work, message_key};
+ghost use Rattle.history_core.specs.Legal.{OpenedRow, BegunRow, ClosedCause, PendingMessage, RestedRow};
 ghost use Rattle.history_core.specs.Sweep.{next_swept};
 
 use crate::candidates::is_delayable;
-use crate::connections::{busy_with, is_live_for, opened_count};
+use crate::connections::{busy_with, connection_with, is_live_for, opened_count};
 use crate::messages::{has_pending, pending_with};
 use crate::promotion::next_swept;
 use crate::scene::Scene;
 use crate::sweep::next_after;
 use crate::verdict::Verdict;
 use history_core::{Cause, Event, Next};
-use kumo_base::Memory;
+use kumo_base::{Memory, Text};
 use std::alloc::Global;
 
 /// Whether an entry is the promotion of this message from this source.
@@ -28,7 +28,12 @@ fn is_promotion(event: &Option<Event>, id: u128, source: &str) -> bool
     ensures { IsTrue result ↔ (event.now ≡ Some (Promoted id source.now)) }
 {
     match event {
-        Some(Event::Promoted { id: of, source: from }) => *of == id && from.is_same(source),
+        Some(
+            Event::Promoted {
+                id: of,
+                source: from,
+            },
+        ) => *of == id && from.is_same(source),
         _ => false,
     }
 }
@@ -90,14 +95,19 @@ impl<'h> Scene<'h> {
         alloc: Global,
         who: u32,
         conn: u64,
-        text: &str,
+        path: &Text,
         key: u32,
     ) -> Result<bool, Memory>
         ensures { IfOk result (λ may. IsTrue may
-            ↔ OpenedRow self.now.policy self.now.history self.now.moment who conn text.now key) }
+            ↔ OpenedRow self.now.policy self.now.history self.now.moment who conn path.now key) }
     {
         let swept = self.is_swept(alloc)?;
-        Ok(swept && self.has_no_reusable(who) && self.is_next_number(conn) && self.opens_next(text, key))
+        Ok(
+            swept
+                && self.has_no_reusable(who)
+                && self.is_next_number(conn)
+                && self.opens_next(path.as_str(), key),
+        )
     }
 
     /// Whether the number is the next of a connection.
@@ -137,7 +147,8 @@ impl<'h> Scene<'h> {
         ensures { IsTrue result ↔ (IsLiveFor self.now.history conn who × (busy_with self.now.history conn ≡ None)
             × ClosedCause self.now.policy self.now.history self.now.moment conn cause) }
     {
-        self.is_at_rest(who, conn) && (cause != Cause::Idle || self.verdict(conn) == Some(Verdict::Stale))
+        self.is_at_rest(who, conn)
+            && (cause != Cause::Idle || self.verdict(conn) == Some(Verdict::Stale))
     }
 
     /// Whether the message may be delayed so.
@@ -167,10 +178,38 @@ impl<'h> Scene<'h> {
         ensures { IfOk result (λ may. IsTrue may ↔ RestedRow self.now.policy self.now.history self.now.moment until) }
     {
         let swept = self.is_swept(alloc)?;
-        Ok(has_pending(self.entries())
-            && swept
-            && self.none_openable()
-            && self.all_linger()
-            && until == self.wake())
+        Ok(
+            has_pending(self.entries())
+                && swept
+                && self.none_openable()
+                && self.all_linger()
+                && until == self.wake(),
+        )
+    }
+
+    /// Whether the key is that of the rate of messages on the connection's path.
+    fn has_key(&self, conn: u64, key: u32) -> bool
+        ensures { IsTrue result ↔ (message_key self.now.policy self.now.history self.now.moment conn ≡ Some key) }
+    {
+        match self.message_key(conn) {
+            Some(own) => own == key,
+            None => false,
+        }
+    }
+
+    /// The key of the rate of messages on the connection's path.
+    fn message_key(&self, conn: u64) -> Option<u32>
+        ensures { result ≡ message_key self.now.policy self.now.history self.now.moment conn }
+    {
+        let opened = connection_with(self.entries(), conn)?;
+        let path = self.path_named(opened.path)?;
+        Some(self.limits(path).message_key)
+    }
+
+    /// Whether the attempt may begin.
+    pub(crate) fn may_begin_attempt(&self, who: u32, conn: u64, id: u128, key: u32) -> bool
+        ensures { IsTrue result ↔ BegunRow self.now.policy self.now.history self.now.moment who conn id key }
+    {
+        self.is_at_rest(who, conn) && self.is_to_attempt(conn, id) && self.has_key(conn, key)
     }
 }

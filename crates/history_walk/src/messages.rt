@@ -1,5 +1,5 @@
 //! The messages of a history: their fates, their failures, and when they are due.
-ghost use Rattle.std.specs.Prelude.{◌≡◌, ◌≢◌, ◌↔◌, [], find, is_some, IsTrue, ◌==◌, ◌-◌, ◌*◌, ◌^◌, ◌<◌, ◌≤◌, min, option_map, unwrap_or, length, count_by};
+ghost use Rattle.std.specs.Prelude.{◌≡◌, ◌≢◌, ◌↔◌, [], find, is_some, IsTrue, false, ◌==◌, ◌-◌, ◌*◌, ◌^◌, ◌<◌, ◌≤◌, min, option_map, unwrap_or, length, count_by};
 ghost use Rattle.std.specs.List.{list_any, list_all};
 ghost use Rattle.kumo_base.specs.Moment.{clamped};
 ghost use Rattle.policy_core.specs.Delays.{at_most};
@@ -222,7 +222,8 @@ pub fn has_message(entries: &[Entry], id: u128) -> bool
 
 /// Whether something is pending.
 pub fn has_pending(entries: &[Entry]) -> bool
-    ensures { IsTrue result ↔ (pending entries.now ≢ []) }
+    ensures some { IsTrue result ↔ (pending entries.now ≢ []) }
+    ensures none { result ≡ false ↔ (pending entries.now ≡ []) }
 {
     for entry in entries {
         if pending_by(entries, entry).is_some() {

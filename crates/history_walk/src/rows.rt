@@ -1,10 +1,11 @@
 //! Whether the row of an event holds, event by event, of what needs no search and no memory.
-ghost use Rattle.std.specs.Prelude.{◌≡◌, ◌↔◌, ◌⊎◌, ◌≤◌, ◌==◌, [], false, fold, IsTrue};
+ghost use Rattle.std.specs.Prelude.{◌≡◌, ◌↔◌, ◌⊎◌, ◌≤◌, ◌==◌, ◌+◌, List, [], ◌∷◌, false, fold, length, IsTrue};
 ghost use Rattle.std.specs.List.{list_any};
+ghost use Rattle.history_core.specs.declared.entry.Entry.{Entry as an_entry};
 ghost use Rattle.history_core.specs.declared.entry.Next.{Next as a_next};
 ghost use Rattle.history_core.specs.History.{has_id, messages};
 ghost use Rattle.history_core.specs.Fate.{pending};
-ghost use Rattle.history_core.specs.LiveOrders.{live_orders};
+ghost use Rattle.history_core.specs.LiveOrders.{orders, live_orders};
 ghost use Rattle.history_core.specs.Connection.{open_anywhere};
 ghost use Rattle.history_core.specs.Legal.{RecoveredRow, KnownRow, EndedNext, EndedRow, PendingMessage, horizon};
 ghost use Rattle.history_core.specs.Candidates.{is_resolvable};
@@ -16,7 +17,7 @@ use crate::messages::{
     has_message, has_only_recoveries, has_pending, is_known, is_recovered, message_with,
     pending_by, pending_with,
 };
-use crate::orders::{bounced_by, live_by};
+use crate::orders::{bounced_by, given_by, live_by};
 use crate::sweep::{how_by, is_resolvable, next_after};
 use history_core::{Entry, How, Next};
 use policy_core::Policy;
@@ -106,9 +107,38 @@ fn ended_next(
     }
 }
 
+/// How many orders the entry gives: one or none.
+fn orders_in(entry: &Entry) -> usize
+    ensures value { (later : List an_entry) → length (orders (entry.now ∷ later)) ≡ result + length (orders later) }
+    ensures low { result ≤ 1 }
+{
+    match given_by(entry) {
+        Some(_) => 1,
+        None => 0,
+    }
+}
+
+/// How many orders were given.
+fn order_count(entries: &[Entry]) -> usize
+    ensures { result ≡ length (orders entries.now) }
+{
+    let mut count = 0;
+    for entry in entries {
+        count += orders_in(entry);
+    }
+    count
+}
+
+/// Whether an order of the number may be given.
+pub(crate) fn may_order(entries: &[Entry], number: u32) -> bool
+    ensures { IsTrue result ↔ (number ≡ length (orders entries.now) + 1) }
+{
+    number != 0 && (number - 1) as usize == order_count(entries)
+}
+
 /// Whether the order of a number may be resumed.
 pub(crate) fn may_resume(entries: &[Entry], t: u64, number: u32) -> bool
-    ensures { result ≡ list_any (λ o. o.number == number) (live_orders entries.now t) }
+    ensures { IsTrue result ↔ IsTrue (list_any (λ o. o.number == number) (live_orders entries.now t)) }
 {
     for entry in entries {
         if let Some(given) = live_by(entries, t, entry) {
@@ -121,13 +151,7 @@ pub(crate) fn may_resume(entries: &[Entry], t: u64, number: u32) -> bool
 }
 
 /// Whether a message may be resolved so.
-pub(crate) fn may_resolve(
-    policy: &Policy,
-    entries: &[Entry],
-    t: u64,
-    id: u128,
-    how: How,
-) -> bool
+pub(crate) fn may_resolve(policy: &Policy, entries: &[Entry], t: u64, id: u128, how: How) -> bool
     ensures { IsTrue result ↔ PendingMessage entries.now id (λ m. IsTrue (is_resolvable policy.now entries.now t m)
         × (how ≡ how_by (bounced_by entries.now t m.name))) }
 {
@@ -158,9 +182,22 @@ fn horizon(policy: &Policy) -> u64
     last_of(policy.stops.as_slice())
 }
 
+/// Whether nothing is pending, or the horizon is reached.
+fn is_over(policy: &Policy, entries: &[Entry], t: u64) -> bool
+    ensures { IsTrue result ↔ ((pending entries.now ≡ []) ⊎ (horizon policy.now ≤ t)) }
+{
+    if !has_pending(entries) {
+        return true;
+    }
+    horizon(policy) <= t
+}
+
 /// Whether the work may end.
 pub(crate) fn may_stop(policy: &Policy, entries: &[Entry], t: u64) -> bool
     ensures { IsTrue result ↔ ((open_anywhere entries.now ≡ []) × ((pending entries.now ≡ []) ⊎ (horizon policy.now ≤ t))) }
 {
-    !has_open(entries) && (!has_pending(entries) || horizon(policy) <= t)
+    if has_open(entries) {
+        return false;
+    }
+    is_over(policy, entries, t)
 }

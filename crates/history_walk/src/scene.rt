@@ -25,6 +25,7 @@ use std::marker::Model;
 
 /// A policy, the entries of a history, what is known of them and the firings that they come to, and a moment in milliseconds
 /// since 1970.
+#[derive(Drop)]
 pub struct Scene<'h> {
     policy: &'h Policy,
     entries: &'h [Entry],
