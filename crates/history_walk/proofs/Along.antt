@@ -1,15 +1,14 @@
 -- What one more entry changes: promotions, paths, the sources taken, and the openings and closings of a path.
-use Rattle.std.proofs.Common.{◌≡◌, ℕ, ◌+◌, ◌<◌, List, [], ◌∷◌, ◌++◌, fold, take, get_or, length, Option, None, ap, ◌∙◌, sym}
+use Rattle.std.proofs.Common.{◌≡◌, ℕ, ◌+◌, ◌<◌, List, [], ◌∷◌, ◌++◌, fold, take, get_or, length, None, ap, ◌∙◌, sym}
 use Rattle.std.proofs.lemmas.List.{take_more}
 use Rattle.std.proofs.lemmas.List.Sums.{fold-append}
 use Rattle.policy_core.specs.Policy.{Policy}
 use Rattle.policy_core.specs.declared.sources.Pool.{Pool}
 use Rattle.history_core.specs.declared.entry.Entry.{Entry}
-use Rattle.history_core.specs.declared.path.Path.{Path}
 use Rattle.history_core.specs.declared.path.Promoted.{Promoted}
 use Rattle.history_core.specs.Events.{promotion_in}
 use Rattle.history_core.specs.History.{along, promoted_at, promotions, with_path, paths}
-use Rattle.history_core.specs.Candidates.{turned, source_taken, sources_taken, place_of, passage_at, passages, Passage, refused_at, last_refusal, run_after, refusals}
+use Rattle.history_core.specs.Candidates.{turned, source_taken, place_of, passage_at, Passage, refused_at, last_refusal, run_after, refusals}
 use Rattle.history_walk.proofs.OneMore.{along-more}
 
 -- a fold over what items add up to goes on by what one more adds

@@ -1,5 +1,5 @@
 -- Lists of what entries give, and what is asked of them.
-use Rattle.std.proofs.Common.{◌≡◌, ℕ, suc, List, [], ◌∷◌, Bool, true, false, not, cond, Option, Some, None, option_and_then, filter, filter_map, count_by, length, refl, sym, ap, ◌∙◌, if◌then◌else◌}
+use Rattle.std.proofs.Common.{◌≡◌, suc, List, [], ◌∷◌, Bool, true, false, cond, Option, Some, None, option_and_then, filter, filter_map, count_by, length, refl, sym, ap, ◌∙◌, if◌then◌else◌}
 use Rattle.std.specs.List.{cons_option}
 use Rattle.std.proofs.lemmas.List.Sums.{length-filter}
 use Rattle.history_walk.specs.Opened.{some_passes}

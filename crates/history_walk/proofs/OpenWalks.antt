@@ -1,7 +1,7 @@
 -- Open connections, entry by entry.
 use Rattle.std.proofs.Common.{◌≡◌, ℕ, List, [], ◌∷◌, Bool, true, false, not, Option, Some, None, is_none, option_and_then, filter, filter_map, count_by, length, bytes_eq, refl, sym, ap, ◌∙◌, if◌then◌else◌}
 use Rattle.history_core.specs.declared.entry.Entry.{Entry}
-use Rattle.history_core.specs.Connection.{Connection, connection_in, is_closed, busy_with, open_anywhere, open_connections}
+use Rattle.history_core.specs.Connection.{Connection, connection_in, is_closed, busy_with, open_connections}
 use Rattle.history_walk.specs.Opened.{some_passes, open_in, idle_in}
 use Rattle.history_walk.proofs.ListWalks.{kept, filter-given, counted-given}
 

@@ -1,7 +1,6 @@
 -- Paths that are the same are equal.
 use Rattle.std.proofs.Common.{◌≡◌, refl, ap, ◌∙◌, ℕ, List, [], ◌∷◌, Bool, true, false, ◌&&◌, bytes_eq}
 use Rattle.std.proofs.lemmas.Slice.Eq.{bytes_eq-Decides}
-use Rattle.policy_core.specs.declared.site.Site.{Site}
 use Rattle.policy_core.specs.Site.{are_same_texts, is_same_site}
 use Rattle.history_core.specs.declared.path.Path.{Path}
 use Rattle.history_core.specs.History.{is_same_path}

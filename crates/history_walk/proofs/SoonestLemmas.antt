@@ -1,12 +1,12 @@
 -- The message that is due first, found from the front.
-use Rattle.std.proofs.Common.{◌≡◌, ℕ, nat_le, List, [], ◌∷◌, Bool, true, false, cond, Option, Some, None, filter, refl, sym, ap, ◌∙◌}
+use Rattle.std.proofs.Common.{◌≡◌, ℕ, nat_le, List, ◌∷◌, Bool, true, false, cond, Option, Some, None, filter, refl, ap, ◌∙◌}
 use Rattle.queue_name.specs.declared.message.Message.{Message}
 use Rattle.policy_core.specs.Policy.{Policy}
 use Rattle.history_core.specs.declared.entry.Entry.{Entry}
 use Rattle.history_core.specs.Retry.{due}
 use Rattle.history_core.specs.Candidates.{is_promotable}
 use Rattle.history_core.specs.Openable.{lesser, least_by}
-use Rattle.history_walk.specs.inside.Soonest.{soonest_among, soonest_so_far, soonest_with, is_no_later}
+use Rattle.history_walk.specs.inside.Soonest.{soonest_among, soonest_with, is_no_later}
 use Rattle.history_walk.proofs.LeastPaths.{lesser_twice}
 
 module _ (policy : Policy) (h : List Entry) (t : ℕ) where

@@ -2,8 +2,6 @@
 use Rattle.std.proofs.Common.{◌≡◌, ℕ, List, ◌++◌, fold, map, refl, sym, ap, ◌∙◌}
 use Rattle.std.proofs.lemmas.List.Sums.{fold-append}
 use Rattle.kumo_base.specs.Limits.{latest_moment}
-use Rattle.policy_core.specs.Policy.{Policy}
-use Rattle.history_core.specs.declared.entry.Entry.{Entry}
 use Rattle.history_core.specs.declared.path.Path.{Path}
 use Rattle.history_core.specs.declared.rule_match.RuleMatch.{RuleMatch}
 use Rattle.history_core.specs.History.{paths}

@@ -1,5 +1,5 @@
 -- The pending messages of a history, entry by entry.
-use Rattle.std.specs.Prelude.{ℕ, ◌==◌, List, Bool, true, false, length, Option, Some, None, option_and_then, if◌then◌else◌}
+use Rattle.std.specs.Prelude.{◌==◌, List, Bool, true, false, length, Option, Some, None, option_and_then, if◌then◌else◌}
 use Rattle.queue_name.specs.declared.message.Message.{Message}
 use Rattle.smtp_reply.specs.declared.reply.Outcome.{Outcome}
 use Rattle.smtp_reply.specs.declared.reply.Outcome.TheVariants.{Transient, Lost}

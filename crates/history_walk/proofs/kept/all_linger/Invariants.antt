@@ -1,7 +1,7 @@
-use Rattle.std.proofs.Common.{◌≡◌, ◌==◌, ◌&&◌, drop, filter, filter_map, find, not, is_none}
-use Rattle.std.specs.List.{list_any, list_all}
-use Rattle.history_core.specs.Connection.{connection_in, is_closed, busy_with}
-use Rattle.history_core.specs.Openable.{verdict_of, is_work, lingers}
+use Rattle.std.proofs.Common.{◌≡◌, drop, filter, filter_map, not}
+use Rattle.std.specs.List.{list_all}
+use Rattle.history_core.specs.Connection.{connection_in, is_closed}
+use Rattle.history_core.specs.Openable.{lingers}
 use Rattle.history_walk.proofs.kept.all_linger.Given as goal
 
 abbrev pub invariant-loop-entry : goal.invariant-loop-entry

@@ -1,4 +1,4 @@
-use Rattle.std.proofs.Common.{arith, refl, map, length}
+use Rattle.std.proofs.Common.{arith, refl}
 use Rattle.std.proofs.lemmas.List.{length-map}
 use Rattle.policy_core.specs.declared.sources.Entrant.{Entrant}
 use Rattle.policy_core.specs.Rotation.{weights_of}

@@ -1,5 +1,5 @@
-use Rattle.std.proofs.Common.{◌≡◌, drop, fold, map}
-use Rattle.history_core.specs.Wake.{earlier_after, stale_marks}
+use Rattle.std.proofs.Common.{◌≡◌, drop, fold}
+use Rattle.history_core.specs.Wake.{earlier_after}
 use Rattle.history_walk.specs.inside.Marks.{age_marks_among}
 use Rattle.history_walk.proofs.wake.earliest_age.Given as goal
 

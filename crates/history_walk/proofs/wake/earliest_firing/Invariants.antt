@@ -1,5 +1,5 @@
-use Rattle.std.proofs.Common.{◌≡◌, drop, fold, map}
-use Rattle.history_core.specs.Wake.{earlier_after, stale_marks}
+use Rattle.std.proofs.Common.{◌≡◌, drop, fold}
+use Rattle.history_core.specs.Wake.{earlier_after}
 use Rattle.history_walk.specs.inside.Marks.{firing_marks_among}
 use Rattle.history_walk.proofs.wake.earliest_firing.Given as goal
 

@@ -1,4 +1,4 @@
-use Rattle.std.proofs.Common.{◌≡◌, drop, fold, map}
+use Rattle.std.proofs.Common.{◌≡◌, drop, fold}
 use Rattle.history_core.specs.Wake.{earlier_after, stale_marks}
 use Rattle.history_walk.specs.inside.Marks.{stale_marks_among}
 use Rattle.history_walk.proofs.wake.earliest_stale.Given as goal
