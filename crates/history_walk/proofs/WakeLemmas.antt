@@ -7,11 +7,11 @@ use Rattle.history_core.specs.declared.rule_match.RuleMatch.{RuleMatch}
 use Rattle.history_core.specs.History.{paths}
 use Rattle.history_core.specs.Firing.{firings}
 use Rattle.history_core.specs.Wake.{due_marks, age_marks, order_marks, firing_marks, rate_marks, stale_marks, earlier_after, wake}
-use Rattle.history_walk.specs.declared.paths.KnownPath.{KnownPath}
-use Rattle.history_walk.specs.Known.{known_path}
+use Rattle.history_automation.specs.declared.paths.KnownPath.{KnownPath}
+use Rattle.history_automation.specs.Known.{known_path}
 use Rattle.history_walk.specs.Scene.{SceneState}
 use Rattle.history_walk.specs.inside.Marks.{firing_marks_among, rate_marks_among}
-use Rattle.history_walk.proofs.LeastPaths.{paths_of_known}
+use Rattle.history_candidates.proofs.LeastPaths.{paths_of_known}
 
 -- seven lists one behind another
 fold_parts : {A B : Type 0} (f : B → A → B) (b : B) (v w x y z u s : List A)

@@ -7,7 +7,7 @@ use Rattle.history_core.specs.declared.path.Path.{Path}
 use Rattle.history_core.specs.History.{text_of}
 use Rattle.history_core.specs.Firing.{firings}
 use Rattle.history_core.specs.Openable.{is_openable, opened_rank, lesser, least_by}
-use Rattle.history_walk.specs.Known.{Known, IsKnown}
+use Rattle.history_automation.specs.Known.{Known, IsKnown}
 
 pub record SceneState : Type 0 where
   pub policy : Policy

@@ -4,10 +4,10 @@ ghost use Rattle.std.specs.List.{list_any, list_all};
 ghost use Rattle.history_core.specs.Connection.{idle_connections, open_anywhere};
 ghost use Rattle.history_core.specs.History.{path_named};
 ghost use Rattle.history_core.specs.Openable.{verdict_of, is_work, may_linger, has_idle_timeout, lingers};
-ghost use Rattle.history_walk.specs.Opened.{connection_of};
+ghost use Rattle.history_views.specs.Opened.{connection_of};
 ghost use Rattle.history_walk.specs.Verdicts.{told};
 
-use crate::connections::{Opened, idle_by, open_by};
+use history_views::connections::{Opened, idle_by, open_by};
 use crate::scene::Scene;
 use crate::verdict::Verdict;
 use history_core::Entry;
@@ -34,7 +34,7 @@ fn may_linger(verdict: Option<Verdict>) -> bool
 }
 
 /// Whether a connection of a number is open and not busy.
-#[tactic(auto, using(crate::proofs::OpenWalks::idle_given))]
+#[tactic(auto, using(history_views::proofs::OpenWalks::idle_given))]
 pub fn is_idle(entries: &[Entry], number: u64) -> bool
     ensures { result ≡ list_any (λ d. d.number == number) (idle_connections entries.now) }
 {
@@ -94,7 +94,7 @@ impl<'h> Scene<'h> {
 }
 
 /// The first connection of the pass that is open and not busy and may begin an attempt; the entries are those of the scene.
-#[tactic(auto, using(crate::proofs::OpenWalks::idle_given))]
+#[tactic(auto, using(history_views::proofs::OpenWalks::idle_given))]
 fn first_reusable<'e>(scene: &Scene<'_>, entries: &'e [Entry], who: u32) -> Option<Opened<'e>>
     requires { entries.now ≡ scene.now.history }
     ensures { option_map connection_of result ≡ find (λ c. c.who == who

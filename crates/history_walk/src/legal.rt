@@ -5,12 +5,12 @@ ghost use Rattle.kumo_outside.specs.Search.{HasSearchCause};
 ghost use Rattle.history_core.specs.History.{has_stopped, last_moment};
 ghost use Rattle.history_core.specs.Events.{is_stopped};
 ghost use Rattle.history_core.specs.Legal.{Row, MayFollow};
-ghost use Rattle.history_walk.specs.Examined.{IsExamined};
+ghost use Rattle.history_automation.specs.Examined.{IsExamined};
 ghost use Rattle.history_walk.specs.declared.legal.Breach.TheVariants as breach;
 
-use crate::paths::Known;
+use history_automation::paths::Known;
 use crate::proper::is_proper;
-use crate::replies::{Examined, examine};
+use history_automation::replies::{Examined, examine};
 use crate::rows::{
     may_accept, may_end, may_know, may_order, may_recover, may_resolve, may_resume, may_stop,
 };

@@ -3,9 +3,9 @@ ghost use Rattle.std.specs.Prelude.{◌≡◌, ◌∷◌, List, fold};
 ghost use Rattle.history_core.specs.declared.entry.Entry.{Entry};
 ghost use Rattle.history_core.specs.Connection.{connections};
 ghost use Rattle.history_core.specs.Openable.{rank_after, opened_rank};
-ghost use Rattle.history_walk.specs.Opened.{connection_of};
+ghost use Rattle.history_views.specs.Opened.{connection_of};
 
-use crate::connections::{Opened, opened_by};
+use history_views::connections::{Opened, opened_by};
 use history_core::Entry;
 
 /// The rank of the path of a text after a connection: one more than the moment of its opening, where it is of the path.

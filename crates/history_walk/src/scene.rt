@@ -10,13 +10,13 @@ ghost use Rattle.history_core.specs.Limits.{limits};
 ghost use Rattle.history_core.specs.Ready.{first_free};
 ghost use Rattle.history_core.specs.Openable.{admits_opening, admits_beginning, next_beginning, is_openable, next_to_open};
 ghost use Rattle.history_core.specs.Wake.{next_opening};
-ghost use Rattle.history_walk.specs.Known.{known_path, IsKnown};
+ghost use Rattle.history_automation.specs.Known.{known_path, IsKnown};
 ghost use Rattle.history_walk.specs.Scene.{IsFound, rank_in, least_openable, least_so_far};
 
-use crate::connections::open_count;
-use crate::limits::limits_in_force;
+use history_views::connections::open_count;
+use history_automation::limits::limits_in_force;
 use crate::openable::opened_rank;
-use crate::paths::{Known, KnownPath, known_path_named};
+use history_automation::paths::{Known, KnownPath, known_path_named};
 use crate::{automation, rates, ready};
 use history_core::{Entry, RuleMatch};
 use policy_core::{InForce, Policy};
@@ -257,7 +257,7 @@ impl<'h> Scene<'h> {
     }
 
     /// The openable path whose last opening is earliest, the first promoted among equals.
-    #[tactic(auto, using(crate::proofs::LeastPaths::known_all, crate::proofs::LeastPaths::paths_of_known))]
+    #[tactic(auto, using(history_candidates::proofs::LeastPaths::known_all, history_candidates::proofs::LeastPaths::paths_of_known))]
     pub fn next_to_open(&self) -> Option<&'h KnownPath>
         ensures next { option_map (λ k. k.now.path) result ≡ next_to_open self.now.policy self.now.history self.now.moment }
         ensures known { IfSome result (λ k. k.now ≡ known_path self.now.policy k.now.path) }
@@ -280,7 +280,7 @@ fn least_openable<'h>(scene: &Scene<'_>, paths: &'h [KnownPath]) -> Option<&'h K
 }
 
 /// What was found so far, or a path behind it that is openable and of less rank.
-#[tactic(auto, using(crate::proofs::LeastPaths::lesser_twice))]
+#[tactic(auto, using(history_candidates::proofs::LeastPaths::lesser_twice))]
 fn less_of<'h>(
     scene: &Scene<'_>,
     best: Option<&'h KnownPath>,

@@ -3,12 +3,12 @@ ghost use Rattle.std.specs.Prelude.{◌≡◌, nat_le, option_map};
 ghost use Rattle.history_core.specs.Connection.{used};
 ghost use Rattle.history_core.specs.Limits.{limits};
 ghost use Rattle.history_core.specs.Openable.{is_past, is_stale, verdict_on, verdict_of, verdict, first_or_empty};
-ghost use Rattle.history_walk.specs.Known.{known_path};
-ghost use Rattle.history_walk.specs.Opened.{connection_of};
+ghost use Rattle.history_automation.specs.Known.{known_path};
+ghost use Rattle.history_views.specs.Opened.{connection_of};
 ghost use Rattle.history_walk.specs.Verdicts.{told};
 
-use crate::connections::{Opened, connection_with, idle_since, used};
-use crate::paths::KnownPath;
+use history_views::connections::{Opened, connection_with, idle_since, used};
+use history_automation::paths::KnownPath;
 use crate::scene::Scene;
 use kumo_base::LAST_MOMENT;
 

@@ -4,16 +4,16 @@ ghost use Rattle.history_core.specs.declared.entry.Entry.{Entry as an_entry};
 ghost use Rattle.history_core.specs.declared.path.Path.{Path as a_path};
 ghost use Rattle.history_core.specs.declared.rule_match.RuleMatch.{RuleMatch as a_match};
 ghost use Rattle.history_core.specs.Wake.{due_marks, age_marks, order_marks, stale_marks, stale_mark, earlier_after, wake};
-ghost use Rattle.history_walk.specs.Known.{known_path};
-ghost use Rattle.history_walk.specs.Opened.{connection_of};
+ghost use Rattle.history_automation.specs.Known.{known_path};
+ghost use Rattle.history_views.specs.Opened.{connection_of};
 ghost use Rattle.history_walk.specs.inside.Marks.{due_marks_among, age_marks_among, order_marks_among, firing_marks_among, rate_marks_among, stale_marks_among};
 
-use crate::automation::is_in_force;
-use crate::connections::{Opened, idle_by, idle_since, is_in_flight};
-use crate::messages::{due, pending_by};
-use crate::orders::{duration_of, end_of, live_by};
-use crate::paths::KnownPath;
-use crate::ready::is_ready;
+use history_automation::automation::is_in_force;
+use history_views::connections::{Opened, idle_by, idle_since, is_in_flight};
+use history_views::messages::{due, pending_by};
+use history_views::orders::{duration_of, end_of, live_by};
+use history_automation::paths::KnownPath;
+use history_candidates::ready::is_ready;
 use crate::scene::Scene;
 use history_core::{Entry, RuleMatch};
 use kumo_base::LAST_MOMENT;
@@ -176,7 +176,7 @@ fn stale_with(scene: &Scene<'_>, entries: &[Entry], best: u64, entry: &Entry) ->
 }
 
 /// The first moment at which a connection that is kept becomes stale.
-#[tactic(auto, using(crate::proofs::OpenWalks::idle_given))]
+#[tactic(auto, using(history_views::proofs::OpenWalks::idle_given))]
 fn earliest_stale(scene: &Scene<'_>, entries: &[Entry], first: u64) -> u64
     requires { entries.now ≡ scene.now.history }
     ensures { result ≡ fold (earlier_after scene.now.moment) first
@@ -203,7 +203,7 @@ fn earliest_stop(stops: &[u64], t: u64, first: u64) -> u64
 impl<'h> Scene<'h> {
     /// The moment up to which nothing may happen by itself: the first after the present one at which something may change, or at
     /// which the policy stops, and `LAST_MOMENT` where there is none.
-    #[tactic(auto, using(crate::proofs::LeastPaths::known_all))]
+    #[tactic(auto, using(history_candidates::proofs::LeastPaths::known_all))]
     pub fn wake(&self) -> u64
         ensures { result ≡ wake self.now.policy self.now.history self.now.moment }
     {

@@ -12,9 +12,9 @@ use Rattle.history_core.specs.Connection.{is_in_flight}
 use Rattle.history_core.specs.Firing.{is_in_force}
 use Rattle.history_core.specs.Ready.{is_ready, first_free}
 use Rattle.history_core.specs.Wake.{marks_of_path, stale_mark}
-use Rattle.history_walk.specs.Opened.{idle_in}
+use Rattle.history_views.specs.Opened.{idle_in}
 use Rattle.history_walk.specs.Scene.{SceneState}
-use Rattle.history_walk.specs.inside.Soonest.{pending_among}
+use Rattle.history_candidates.specs.inside.Soonest.{pending_among}
 
 abbrev pub due_marks_among : List Entry → List Entry → List ℕ
 due_marks_among h later = map (due h) (filter (λ m. not (is_ready h m.id) && not (is_in_flight h m.id)) (pending_among h later))

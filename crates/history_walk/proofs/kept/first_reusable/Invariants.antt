@@ -1,7 +1,7 @@
 use Rattle.std.proofs.Common.{◌≡◌, ◌==◌, ◌&&◌, drop, filter_map, find}
 use Rattle.history_core.specs.Connection.{idle_connections}
 use Rattle.history_core.specs.Openable.{verdict_of, is_work}
-use Rattle.history_walk.specs.Opened.{idle_in}
+use Rattle.history_views.specs.Opened.{idle_in}
 use Rattle.history_walk.proofs.kept.first_reusable.Given as goal
 
 abbrev pub invariant-loop-entry : goal.invariant-loop-entry

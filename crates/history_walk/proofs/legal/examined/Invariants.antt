@@ -1,5 +1,5 @@
 use Rattle.std.proofs.Common.{◌≤◌, take}
-use Rattle.history_walk.specs.Examined.{IsExamined}
+use Rattle.history_automation.specs.Examined.{IsExamined}
 use Rattle.history_walk.proofs.legal.examined.Given as goal
 
 abbrev pub invariant-loop-place : goal.invariant-loop-place

@@ -1,5 +1,5 @@
 use Rattle.std.proofs.Common.{◌≡◌, drop, map, option_map, IfSome}
-use Rattle.history_walk.specs.Known.{known_path}
+use Rattle.history_automation.specs.Known.{known_path}
 use Rattle.history_walk.specs.Scene.{least_openable, least_so_far}
 use Rattle.history_walk.proofs.scene.least_openable.Given as goal
 

@@ -1,0 +1,9 @@
+pub mod OneMore
+pub mod RuleWalks
+pub mod SiteWalks
+pub mod RateWalks
+pub mod Along
+pub mod SamePaths
+pub mod KnownPaths
+pub mod FiringWalks
+pub mod MatchWalks

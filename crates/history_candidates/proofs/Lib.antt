@@ -1,0 +1,4 @@
+pub mod ReadyCount
+pub mod Picks
+pub mod LeastPaths
+pub mod SoonestLemmas

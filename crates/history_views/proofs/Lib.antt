@@ -1,0 +1,2 @@
+pub mod ListWalks
+pub mod OpenWalks

@@ -1,6 +1,0 @@
-use Rattle.std.proofs.Common.{take}
-use Rattle.history_walk.specs.Known.{IsKnown}
-use Rattle.history_walk.proofs.paths.Known.of.Given as goal
-
-abbrev pub invariant-loop-place : goal.invariant-loop-place
-invariant-loop-place l = IsKnown l.policy (take l.place l.entries) l.known
