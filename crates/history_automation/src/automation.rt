@@ -7,8 +7,8 @@ ghost use Rattle.history_core.specs.History.{text_of, is_same_path};
 ghost use Rattle.history_core.specs.LiveOrders.{is_suspended};
 ghost use Rattle.history_core.specs.Firing.{is_in_force};
 
-use history_views::orders::{is_during, is_suspended};
 use history_core::{Entry, Path, RuleMatch};
+use history_views::orders::{is_during, is_suspended};
 use kumo_base::Text;
 use policy_core::{Action, Policy};
 use queue_name::{Message, QueueName};

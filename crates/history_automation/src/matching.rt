@@ -9,10 +9,10 @@ ghost use Rattle.history_core.specs.Connection.{path_of_connection};
 ghost use Rattle.history_core.specs.Firing.{refusal_text, is_matched, refusal_at, matches_of, matches_at};
 ghost use Rattle.history_automation.specs.inside.Refused.{refusal_of, matches_from};
 
-use history_views::connections::connection_with;
-use history_views::messages::message_with;
 use crate::paths::path_named;
 use history_core::{Entry, Event, Path, RuleMatch};
+use history_views::connections::connection_with;
+use history_views::messages::message_with;
 use kumo_base::{Memory, Text};
 use kumo_outside::{Search, SearchFault};
 use policy_core::{Policy, Rule};

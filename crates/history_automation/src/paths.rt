@@ -6,8 +6,8 @@ ghost use Rattle.history_core.specs.declared.entry.Entry.{Entry as entry};
 ghost use Rattle.history_core.specs.History.{path_for, text_of, promoted_at, path_named, is_same_path};
 ghost use Rattle.history_automation.specs.Known.{known_path, known_of, with_known, IsKnown};
 
-use history_views::messages::message_with;
 use history_core::{Entry, Event, Path, Promoted};
+use history_views::messages::message_with;
 use kumo_base::{Memory, Text};
 use policy_core::{PathBase, Policy};
 use queue_name::Message;

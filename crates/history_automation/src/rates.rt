@@ -9,8 +9,8 @@ ghost use Rattle.history_core.specs.Limits.{opened_moments, begun_moments, begun
 ghost use Rattle.history_core.specs.Connection.{path_of_connection};
 ghost use Rattle.history_automation.specs.inside.Filled.{IsFilled};
 
-use history_views::connections::{connection_with, opened_by};
 use history_core::{Entry, Event};
+use history_views::connections::{connection_with, opened_by};
 use kumo_base::LAST_MOMENT;
 use policy_core::InForce;
 use throttle_spec::{Bucket, ThrottleSpec};

@@ -9,13 +9,13 @@ ghost use Rattle.history_core.specs.Retry.{due};
 ghost use Rattle.history_core.specs.Candidates.{is_positive_multiple, is_before, is_put_off, is_delayable};
 ghost use Rattle.history_automation.specs.Known.{known_path, IsKnown};
 
-use history_views::connections::is_in_flight;
-use history_automation::limits::limits_in_force;
-use history_views::messages::due;
-use history_automation::paths::{Known, KnownPath, known_path_of};
 use crate::ready::{is_free, is_ready, is_taken};
 use crate::refusals::{last_refusal, refusals};
+use history_automation::limits::limits_in_force;
+use history_automation::paths::{Known, KnownPath, known_path_of};
 use history_core::{Entry, Promoted, RuleMatch};
+use history_views::connections::is_in_flight;
+use history_views::messages::due;
 use policy_core::Policy;
 use queue_name::Message;
 

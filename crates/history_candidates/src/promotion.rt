@@ -10,11 +10,11 @@ ghost use Rattle.history_automation.specs.Known.{IsKnown};
 ghost use Rattle.history_candidates.specs.inside.Soonest.{soonest_among, soonest_with, pending_among, is_no_later};
 
 use crate::candidates::is_waiting;
-use history_views::messages::{due, pending_by};
-use history_automation::paths::Known;
 use crate::rotation::pick_for;
 use crate::sweep::{next_delayed, next_resolved};
+use history_automation::paths::Known;
 use history_core::{Entry, Event, RuleMatch};
+use history_views::messages::{due, pending_by};
 use kumo_base::{Memory, Text};
 use policy_core::Policy;
 use queue_name::Message;

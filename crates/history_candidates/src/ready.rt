@@ -7,9 +7,9 @@ ghost use Rattle.history_core.specs.Firing.{firings as all_firings, is_free};
 ghost use Rattle.history_core.specs.Ready.{is_taken, ready_among, is_ready_after, is_ready, is_free_id, first_free};
 
 use history_automation::automation::is_covered;
+use history_core::{Entry, Event, Path, Promoted, RuleMatch};
 use history_views::messages::{message_with, settles};
 use history_views::orders::is_held;
-use history_core::{Entry, Event, Path, Promoted, RuleMatch};
 use policy_core::Policy;
 use queue_name::Message;
 

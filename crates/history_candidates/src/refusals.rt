@@ -6,8 +6,8 @@ ghost use Rattle.history_core.specs.Connection.{path_of_connection};
 ghost use Rattle.history_core.specs.Limits.{is_text};
 ghost use Rattle.history_core.specs.Candidates.{opened_by, closed_by, passage_at, refused_at, last_refusal, run_after, refusals};
 
-use history_views::connections::connection_with;
 use history_core::{Cause, Entry, Event};
+use history_views::connections::connection_with;
 
 /// Whether the entry opens or closes a connection of the path of a text. `before` are the entries before it.
 fn is_passage(before: &[Entry], entry: &Entry, text: &str) -> bool

@@ -9,13 +9,13 @@ ghost use Rattle.history_core.specs.Firing.{firings as all_firings};
 ghost use Rattle.history_core.specs.Candidates.{pool_of, is_source, turned, source_taken, place_of, has_room, eligible, pick_from, pick_for};
 ghost use Rattle.history_automation.specs.Known.{known_path, IsKnown};
 
-use history_automation::automation::is_halted;
-use history_automation::limits::limits_in_force;
-use history_views::messages::message_with;
-use history_automation::paths::{Known, KnownPath, known_path, known_path_of, path_for};
 use crate::ready::ready_count;
 use egress_pool::Turner;
+use history_automation::automation::is_halted;
+use history_automation::limits::limits_in_force;
+use history_automation::paths::{Known, KnownPath, known_path, known_path_of, path_for};
 use history_core::{Entry, Event, RuleMatch};
+use history_views::messages::message_with;
 use kumo_base::{Memory, Text};
 use policy_core::{Policy, Pool};
 use queue_name::Message;

@@ -8,11 +8,11 @@ ghost use Rattle.history_core.specs.Sweep.{how_by, next_resolved, next_delayed};
 ghost use Rattle.history_automation.specs.Known.{IsKnown};
 
 use crate::candidates::is_delayable;
+use history_automation::paths::Known;
+use history_core::{Entry, Event, How, Next, RuleMatch};
 use history_views::connections::is_in_flight;
 use history_views::messages::{delay_of, due_or_expired, failures, pending_by};
 use history_views::orders::bounced_by;
-use history_automation::paths::Known;
-use history_core::{Entry, Event, How, Next, RuleMatch};
 use kumo_base::LAST_MOMENT;
 use policy_core::Policy;
 use queue_name::Message;

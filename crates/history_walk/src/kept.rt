@@ -7,10 +7,10 @@ ghost use Rattle.history_core.specs.Openable.{verdict_of, is_work, may_linger, h
 ghost use Rattle.history_views.specs.Opened.{connection_of};
 ghost use Rattle.history_walk.specs.Verdicts.{told};
 
-use history_views::connections::{Opened, idle_by, open_by};
 use crate::scene::Scene;
 use crate::verdict::Verdict;
 use history_core::Entry;
+use history_views::connections::{Opened, idle_by, open_by};
 
 /// Whether a verdict is to attempt a message.
 fn is_work(verdict: Option<Verdict>) -> bool

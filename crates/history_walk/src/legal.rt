@@ -8,13 +8,13 @@ ghost use Rattle.history_core.specs.Legal.{Row, MayFollow};
 ghost use Rattle.history_automation.specs.Examined.{IsExamined};
 ghost use Rattle.history_walk.specs.declared.legal.Breach.TheVariants as breach;
 
-use history_automation::paths::Known;
 use crate::proper::is_proper;
-use history_automation::replies::{Examined, examine};
 use crate::rows::{
     may_accept, may_end, may_know, may_order, may_recover, may_resolve, may_resume, may_stop,
 };
 use crate::scene::Scene;
+use history_automation::paths::Known;
+use history_automation::replies::{Examined, examine};
 use history_core::{Entry, Event};
 use kumo_base::Memory;
 use kumo_outside::{Search, SearchFault};

@@ -12,14 +12,14 @@ ghost use Rattle.history_core.specs.Openable.{is_openable, next_to_open, reusabl
 ghost use Rattle.history_core.specs.Legal.{OpenedRow, BegunRow, ClosedCause, PendingMessage, RestedRow};
 ghost use Rattle.history_core.specs.Sweep.{next_swept};
 
+use crate::scene::Scene;
+use crate::verdict::Verdict;
 use history_candidates::candidates::is_delayable;
+use history_candidates::promotion::next_swept;
+use history_candidates::sweep::next_after;
+use history_core::{Cause, Event, Next};
 use history_views::connections::{busy_with, connection_with, is_live_for, opened_count};
 use history_views::messages::{has_pending, pending_with};
-use history_candidates::promotion::next_swept;
-use crate::scene::Scene;
-use history_candidates::sweep::next_after;
-use crate::verdict::Verdict;
-use history_core::{Cause, Event, Next};
 use kumo_base::{Memory, Text};
 use std::alloc::Global;
 

@@ -5,8 +5,8 @@ ghost use Rattle.history_core.specs.Connection.{connections};
 ghost use Rattle.history_core.specs.Openable.{rank_after, opened_rank};
 ghost use Rattle.history_views.specs.Opened.{connection_of};
 
-use history_views::connections::{Opened, opened_by};
 use history_core::Entry;
+use history_views::connections::{Opened, opened_by};
 
 /// The rank of the path of a text after a connection: one more than the moment of its opening, where it is of the path.
 fn rank_after(text: &str, was: u128, opened: &Opened<'_>) -> u128

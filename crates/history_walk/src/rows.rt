@@ -12,14 +12,14 @@ ghost use Rattle.history_core.specs.Candidates.{is_resolvable};
 ghost use Rattle.history_core.specs.LiveOrders.{bounced_by};
 ghost use Rattle.history_core.specs.Sweep.{how_by};
 
+use history_candidates::sweep::{how_by, is_resolvable, next_after};
+use history_core::{Entry, How, Next};
 use history_views::connections::{busy_with, has_open, is_live_for};
 use history_views::messages::{
     has_message, has_only_recoveries, has_pending, is_known, is_recovered, message_with,
     pending_by, pending_with,
 };
 use history_views::orders::{bounced_by, given_by, live_by};
-use history_candidates::sweep::{how_by, is_resolvable, next_after};
-use history_core::{Entry, How, Next};
 use policy_core::Policy;
 use queue_name::Message;
 use smtp_reply::Outcome;

@@ -13,12 +13,13 @@ ghost use Rattle.history_core.specs.Wake.{next_opening};
 ghost use Rattle.history_automation.specs.Known.{known_path, IsKnown};
 ghost use Rattle.history_walk.specs.Scene.{IsFound, rank_in, least_openable, least_so_far};
 
-use history_views::connections::open_count;
-use history_automation::limits::limits_in_force;
 use crate::openable::opened_rank;
+use history_automation::limits::limits_in_force;
 use history_automation::paths::{Known, KnownPath, known_path_named};
-use crate::{automation, rates, ready};
+use history_automation::{automation, rates};
+use history_candidates::ready;
 use history_core::{Entry, RuleMatch};
+use history_views::connections::open_count;
 use policy_core::{InForce, Policy};
 use queue_name::Message;
 use std::marker::Model;

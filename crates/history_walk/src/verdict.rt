@@ -7,9 +7,9 @@ ghost use Rattle.history_automation.specs.Known.{known_path};
 ghost use Rattle.history_views.specs.Opened.{connection_of};
 ghost use Rattle.history_walk.specs.Verdicts.{told};
 
-use history_views::connections::{Opened, connection_with, idle_since, used};
-use history_automation::paths::KnownPath;
 use crate::scene::Scene;
+use history_automation::paths::KnownPath;
+use history_views::connections::{Opened, connection_with, idle_since, used};
 use kumo_base::LAST_MOMENT;
 
 /// What a connection may do, by the first that holds.

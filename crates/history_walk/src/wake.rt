@@ -8,14 +8,14 @@ ghost use Rattle.history_automation.specs.Known.{known_path};
 ghost use Rattle.history_views.specs.Opened.{connection_of};
 ghost use Rattle.history_walk.specs.inside.Marks.{due_marks_among, age_marks_among, order_marks_among, firing_marks_among, rate_marks_among, stale_marks_among};
 
+use crate::scene::Scene;
 use history_automation::automation::is_in_force;
+use history_automation::paths::KnownPath;
+use history_candidates::ready::is_ready;
+use history_core::{Entry, RuleMatch};
 use history_views::connections::{Opened, idle_by, idle_since, is_in_flight};
 use history_views::messages::{due, pending_by};
 use history_views::orders::{duration_of, end_of, live_by};
-use history_automation::paths::KnownPath;
-use history_candidates::ready::is_ready;
-use crate::scene::Scene;
-use history_core::{Entry, RuleMatch};
 use kumo_base::LAST_MOMENT;
 use policy_core::Policy;
 use queues_policy::ages_of;
