@@ -9,11 +9,11 @@ use Rattle.atomic_table.proofs.Lists.{set_here, set_else, at_longer}
 use Rattle.std.proofs.Math.Seq.{take-append_seam, take-append-add}
 use Rattle.std.proofs.Math.Nat.{max-le}
 use Rattle.std.proofs.lemmas.List.{set_comm, nil_from_length}
-use Rattle.std.proofs.lemmas.Option.{none-some}
+use Rattle.std.proofs.lemmas.Option.{none-some, same_Some}
 use mathlib.Core.Logic.{dite}
 use Rattle.turnstile.specs.Entries.{Begins, own_entries, Note, Shown}
 use Rattle.turnstile.specs.Rule.{waits, waiting, Knows, IsSpent, IsSeated, Apart, IsIn, IsTaken, Kept}
-use Rattle.turnstile.specs.Views.{newcomer, with_number_given, fresh, joined, ended, AllMet, is_there, whose, View}
+use Rattle.turnstile.specs.Views.{newcomer, founder, with_number_given, fresh, joined, ended, AllMet, is_there, whose, View}
 use Rattle.std.proofs.lemmas.List.Elements.{filter-append, Contains-append_cases}
 use Rattle.turnstile.proofs.OneView.{at_below, waiting_set, by_view, no_news, own_front, only_one, split_first, in_first, in_rest, some_not_none, some_same, knows_seen, given_all, slot_set, apart_set, still_spent, seated_in, replaced_in_turn, retired}
 use Rattle.turnstile.proofs.TurnMoves.{own_apart}
@@ -70,24 +70,24 @@ both_know log v w kv kw =
 newly : (next turn : ℕ) (log : Shown) (views : List View) (i : ℕ) (x : Shown) (g : ℕ) → Knows log (record (newcomer i x) { given = g }) → IsSeated next turn log views i (record (newcomer i x) { given = g })
 newly next turn log views i x g k = record { number = λ _. refl; ticket = λ t e. absurd (none-some t e); took = λ y e. absurd (none-some y e); knows = λ _. k; spent = λ _. (refl, refl); met = λ w _ c. absurd (omega (arith, c.1)) }
 
--- a table that has just been made keeps the rule
-pub opens : {T : Type 0} (shown : T → Shown) (x : T) → own_entries 0 (shown x).entries ≡ (shown x).entries → Kept shown (opening (0 ∷ 0 ∷ []) (Some x ∷ []) (newcomer 0 (shown x)))
+-- a table that has just been made keeps the rule, and the first pass has its value
+pub opens : {T : Type 0} (shown : T → Shown) (x : T) → own_entries 0 (shown x).entries ≡ (shown x).entries → Kept shown (opening (1 ∷ 0 ∷ []) (None ∷ []) (founder (shown x)))
 opens shown x by = record {
-  next = 0;
+  next = 1;
   turn = 0;
   log = shown x;
   words = refl;
   out = refl;
   few = omega arith;
-  slot = inl (x, refl, refl, only (λ _ v. v.took ≡ None) refl);
-  each = only (IsSeated 0 0 (shown x) (first ∷ [])) (newly 0 0 (shown x) (first ∷ []) 0 (shown x) 1 (knows_seen (shown x) (0 ∷ [])));
-  apart = λ i j t v w a b tv tw. absurd (some_not_none t v.ticket (only (λ _ v. v.ticket ≡ None) refl i v a) tv);
+  slot = inr (0, first, refl, refl, refl);
+  each = only (IsSeated 1 0 (shown x) (first ∷ [])) record { number = λ _. refl; ticket = λ t e. let same = same_Some 0 t e in (omega arith, omega arith); took = λ y e. (refl, sym (same_Some (shown x) y e)); knows = λ _. knows_seen (shown x) (0 ∷ []); spent = λ e. absurd (true≢false (sym e)); met = λ w _ c. absurd (omega (arith, c.1)) };
+  apart = λ i j t v w a b tv tw. only (λ i _. i ≡ 0) refl i v a ∙ sym (only (λ j _. j ≡ 0) refl j w b);
   unborn = λ w high. ap (own_entries w) (sym by) ∙ own_apart 0 w (shown x).entries (λ e. let h = high in omega arith);
   head = (first, refl, refl, refl);
 }
   where
     first : View
-    first = newcomer 0 (shown x)
+    first = founder (shown x)
 
     only : (P : ℕ → View → Type 0) → P 0 first → (i : ℕ) (v : View) → get_elem? (first ∷ []) i ≡ some v → P i v
     only P h = by_end P [] first h (λ j u e. absurd (some-ne-none u (sym e)))

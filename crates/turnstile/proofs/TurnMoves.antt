@@ -10,7 +10,7 @@ use Rattle.atomic_table.specs.Table.{State, Me, Act, keeps, takes, gives, steppe
 use Rattle.atomic_table.proofs.Lists.{set_here, set_again, one_turn}
 use Rattle.turnstile.specs.Entries.{own_entries, Follows, Note, Shown}
 use Rattle.turnstile.specs.Rule.{waits, Knows, emptied, IsIn, IsTaken, Kept}
-use Rattle.turnstile.specs.inside.Steps.{drew, looked, passed, laid, fetched, recalled}
+use Rattle.turnstile.specs.inside.Steps.{drew, looked, passed, laid, fetched, recalled, Waits}
 use Rattle.turnstile.specs.Views.{left_with, whose, View}
 use Rattle.std.proofs.lemmas.Bool.Decides.{eqb_tells}
 use Rattle.std.proofs.Math.Nat.{suc-mod}
@@ -215,6 +215,10 @@ module _ {T : Type 0} (shown : T → Shown) (slots id : ℕ) (me : Me (Option T)
             )),
         λ y' carried'. ap (λ c. (w, carried_after c gives)) carried ∙ ap (λ z. (left_with (shown z) me.0, [])) (same_Some y y' (ap (first_or None) (sym carried ∙ carried'))),
       )
+
+-- where the ticket was not served, the look changed nothing
+pub missed : {T : Type 0} (shown : T → Shown) {found ticket : ℕ} {me me' : Me (Option T) View} → Waits ticket me → looked shown me found me' → found ≢ ticket → me' ≡ me
+missed shown w told ne = (told w.0 w.1 w.3 w.4 w.5).1 (λ e. ne (e ∙ sym w.2))
 
 pub carried_first : {T : Type 0} (y : T) (z : Option T) (l m : List (ℕ × Option T)) → l ≡ (0, Some y) ∷ [] → l ≡ (0, z) ∷ m → z ≡ Some y
 carried_first y z l m a b = ap (first_or None) (sym b ∙ a)

@@ -12,6 +12,10 @@ untold = record { entries = []; numbers = [] }
 abbrev pub newcomer : ℕ → Shown → View
 newcomer i x = record { number = i; ticket = None; took = None; away = false; seen = x; met = []; left = untold; right = untold; given = 1; spent = false }
 
+-- the view of the first pass before it leaves the value `x` in the turnstile: it has the first ticket, and its turn
+abbrev pub founder : Shown → View
+founder x = record (newcomer 0 x) { ticket = Some 0; took = Some x }
+
 -- the numbers whose entries a pass knows whole: its own, and those of the passes that it met
 abbrev pub whose : View → List ℕ
 whose v = v.number ∷ v.met

@@ -9,8 +9,8 @@ ghost use Rattle.turnstile.specs.Views.{IsSamePass, newcomer, with_number_given,
 use crate::chronicle::Chronicle;
 use crate::moves::{Draw, Fetch, Give, Hand, Lay, Meet, Recall};
 use crate::pass::{NoSeat, Pass};
-use crate::steps::{Board, TICKETS, TURNS, take_seat, wait_for, wake_next};
-use atomic_table::{Refused, Table};
+use crate::steps::{Board, TICKETS, TURNS, count_up, look, take_seat, wait_for, wake_next};
+use atomic_table::Table;
 use kumo_base::Memory;
 use std::alloc::Global;
 use std::snapshot::Snapshot;
@@ -36,26 +36,19 @@ impl<T: Chronicle> Turnstile<T> {
         ensures view { IfOk result (λ p. view p.1 ≡ newcomer 0 (T.shown value)) }
         ensures err { IfErr result (λ e. e.1 ≡ value) }
     {
+        // The table begins in the first pass's turn, with an empty slot: so the value goes in as after any turn.
         let about = Snapshot::of(&value);
-        let Ok(mut slots) = Vec::with_capacity(alloc, 1) else {
+        let Ok((table, seat)) = Table::vacant(alloc, &[1, 0], 1, &about) else {
             return Err((Memory, value));
         };
-        slots.push(Some(value)).unwrap();
-        match Table::new(alloc, &[0, 0], slots, &about) {
-            Ok((table, seat)) => {
-                let pass = Pass {
-                    badge: seat.into_badge(),
-                    number: 0,
-                    given: 1,
-                };
-                Ok((Turnstile { table, seats }, pass))
-            }
-            Err(Refused { mut slots }) => {
-                let slot = slots.pop().unwrap();
-                slots.destroy_empty();
-                Err((Memory, slot.unwrap()))
-            }
-        }
+        let stile = Turnstile { table, seats };
+        let mut pass = Pass {
+            badge: seat.into_badge(),
+            number: 0,
+            given: 1,
+        };
+        stile.leave(&mut pass, value);
+        Ok((stile, pass))
     }
 
     /// One more pass, with the next number, which has seen what `pass` has seen and has no entries of its own. Refused
@@ -77,7 +70,7 @@ impl<T: Chronicle> Turnstile<T> {
         }
         let number = pass.given;
         let mut seat = take_seat(&mut pass.badge);
-        self.table.shared.load::<Recall>(&mut seat, TURNS);
+        look::<T, Recall>(&self.table, &mut seat);
         let other = self.table.shared.split_seat::<Give>(&mut seat);
         pass.badge = seat.into_badge();
         pass.given = number + 1;
@@ -101,11 +94,10 @@ impl<T: Chronicle> Turnstile<T> {
         ensures numbers { AtMost (view pass.old).seen.counts (T.shown result).counts }
     {
         let mut seat = take_seat(&mut pass.badge);
-        let board = &self.table.shared;
-        let ticket = board.fetch_add::<Draw>(&mut seat, TICKETS, 1);
+        let ticket = count_up::<T, Draw>(&self.table, &mut seat, TICKETS);
         wait_for(&self.table, rt, &mut seat, ticket);
-        let held = board.exchange(&mut seat, 0, None);
-        board.load::<Lay>(&mut seat, TURNS);
+        let held = self.table.shared.exchange(&mut seat, 0, None);
+        look::<T, Lay>(&self.table, &mut seat);
         pass.badge = seat.into_badge();
         held.unwrap()
     }
@@ -118,11 +110,10 @@ impl<T: Chronicle> Turnstile<T> {
         ensures left { view pass.new ≡ left_with (T.shown value) (view pass.old) }
     {
         let mut seat = take_seat(&mut pass.badge);
-        let board = &self.table.shared;
-        board.load::<Fetch>(&mut seat, TURNS);
-        let old = board.exchange(&mut seat, 0, Some(value));
+        look::<T, Fetch>(&self.table, &mut seat);
+        let old = self.table.shared.exchange(&mut seat, 0, Some(value));
         let None = old else { unreachable!() };
-        let served = board.fetch_add::<Hand>(&mut seat, TURNS, 1);
+        let served = count_up::<T, Hand>(&self.table, &mut seat, TURNS);
         pass.badge = seat.into_badge();
         wake_next(&self.table, served);
     }
@@ -142,9 +133,10 @@ impl<T: Chronicle> Turnstile<T> {
     {
         let Pass { mut badge, .. } = other;
         let mut seat = take_seat(&mut pass.badge);
-        let board = &self.table.shared;
-        board.join_seat::<Meet>(&mut seat, take_seat(&mut badge));
-        board.load::<Recall>(&mut seat, TURNS);
+        self.table
+            .shared
+            .join_seat::<Meet>(&mut seat, take_seat(&mut badge));
+        look::<T, Recall>(&self.table, &mut seat);
         pass.badge = seat.into_badge();
     }
 

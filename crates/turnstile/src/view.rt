@@ -41,9 +41,9 @@ pub struct InTurn;
 
 impl<T: Chronicle> TableRule<Option<T>, View, Snapshot<T>> for InTurn {
     ghost use Rattle.turnstile.specs.Rule.{Kept};
-    ghost use Rattle.turnstile.specs.Views.{newcomer};
+    ghost use Rattle.turnstile.specs.Views.{founder};
 
     ghost holds = { λ _. Kept T.shown };
 
-    ghost first = { λ x. newcomer 0 (T.shown x.value) };
+    ghost first = { λ x. founder (T.shown x.value) };
 }

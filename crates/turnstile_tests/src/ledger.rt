@@ -47,7 +47,8 @@ pub fn mark_turn<R: Wait>(rt: &R, stile: &Turnstile<Ledger>, pass: &mut Pass, nu
     requires idle { IsIdle pass.old }
     ensures place { KeepsPlace pass.old pass.new }
     ensures own { let v = view pass.old in
-        own_entries v.number (view pass.new).seen.entries ≡ own_entries v.number v.seen.entries ++ notes_made result v.number number }
+        own_entries v.number (view pass.new).seen.entries
+        ≡ own_entries v.number v.seen.entries ++ notes_made result v.number number }
 {
     let mut ledger = stile.enter(rt, pass);
     let done = ledger.add(pass.number(), number);

@@ -15,16 +15,16 @@ join_seat-requires g c = let mine = c.take_seat-seat.ensures.view in let theirs 
       (ap (λ m. m.0.ticket) theirs ∙ no_ticket _ _ o.ticketed free) (ap (λ m. m.0.took) theirs ∙ free) (λ e. c.requires.second (sym (ap (λ m. m.0.number) theirs) ∙ e)),
 )
 
-pub load-requires : goal.load-requires
-load-requires g c = (c.join_seat.ensures.0 ∙ c.take_seat-seat.ensures.table ∙ c.requires.table, (has_words c.args.self.now.sized.0).1, recalls g.T.Chronicle.shown _ _ _)
+pub look-requires-clause-allowed : goal.look-requires-clause-allowed
+look-requires-clause-allowed g c = recalls g.T.Chronicle.shown _ _ _
 
 pub returns : goal.returns
-returns g c = let mine = c.take_seat-seat.ensures.view in let theirs = c.take_seat.ensures.view in let told = c.load.ensures.2 in
+returns g c = let mine = c.take_seat-seat.ensures.view in let theirs = c.take_seat.ensures.view in let told = c.look.ensures.told in
     let is = ap (λ m. m.0) c.join_seat.ensures.2 ∙ λ i. joined (mine i).0 (theirs i).0 in
     let same = ap known c.into_badge.ensures.2 ∙ ap (λ m. m.0) told.0 in
     let knew = told.1 (ap (λ v. v.spent) is ∙ c.args.pass.now.resting.0) in
     let knows = subst (λ (p : View × View). IsTold p.0.left p.1.seen × IsTold p.0.right p.1.seen) (λ i. (is i, sym same i)) (knew.0, knew.1) in record {
-      table = c.into_badge.ensures.0 ∙ c.load.ensures.0 ∙ c.join_seat.ensures.0 ∙ c.take_seat-seat.ensures.table;
+      table = c.into_badge.ensures.0 ∙ c.look.ensures.seat.0 ∙ c.join_seat.ensures.0 ∙ c.take_seat-seat.ensures.table;
       joined = same ∙ is;
       prefix = knows.0.0;
       others_prefix = knows.1.0;
