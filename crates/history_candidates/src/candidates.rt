@@ -72,12 +72,11 @@ fn is_delayed(
     ensures { result ≡ (not (is_taken entries.now promoted.now)
         && (promoted.now.id == id && is_put_off policy.now entries.now t promoted.now)) }
 {
+    if promoted.id != id || is_taken(entries, promoted) {
+        return false;
+    }
     match known_path_of(known, &promoted.path) {
-        Some(on) => {
-            !is_taken(entries, promoted)
-                && promoted.id == id
-                && is_put_off(policy, entries, firings, t, promoted, on)
-        }
+        Some(on) => is_put_off(policy, entries, firings, t, promoted, on),
         None => false,
     }
 }

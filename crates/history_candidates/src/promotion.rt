@@ -66,8 +66,7 @@ fn sooner<'h>(
     }
 }
 
-/// The promotable message that is due first among the pending ones of these entries, with its pick. The entries are those of
-/// the history, and the rest of them is gone through.
+/// The promotable message that is due first, with the source that is picked for it.
 fn soonest<'h>(
     alloc: Global,
     policy: &Policy,

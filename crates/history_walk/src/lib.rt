@@ -17,5 +17,6 @@ mod verdict;
 mod wake;
 
 pub use legal::{Breach, legal_next};
+pub use rows::{may_know, may_resume, order_count};
 pub use scene::Scene;
 pub use verdict::Verdict;

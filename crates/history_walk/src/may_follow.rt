@@ -134,7 +134,7 @@ impl<'h> Scene<'h> {
         is_live_for(self.entries(), conn, who) && busy_with(self.entries(), conn).is_none()
     }
 
-    /// Whether the path opens or attempts nothing: no path may open a connection.
+    /// Whether no path may open a connection.
     fn none_openable(&self) -> bool
         ensures { IsTrue result ↔ (list_any (is_openable self.now.policy self.now.history self.now.moment)
             (paths self.now.policy self.now.history) ≡ false) }
@@ -198,7 +198,7 @@ impl<'h> Scene<'h> {
     }
 
     /// The key of the rate of messages on the connection's path.
-    fn message_key(&self, conn: u64) -> Option<u32>
+    pub fn message_key(&self, conn: u64) -> Option<u32>
         ensures { result ≡ message_key self.now.policy self.now.history self.now.moment conn }
     {
         let opened = connection_with(self.entries(), conn)?;

@@ -62,7 +62,7 @@ fn is_pending_id(entries: &[Entry], id: u128) -> bool
 }
 
 /// Whether a recovered message may be handed in again.
-pub(crate) fn may_know(entries: &[Entry], id: u128) -> bool
+pub fn may_know(entries: &[Entry], id: u128) -> bool
     ensures { IsTrue result ↔ KnownRow entries.now id }
 {
     is_recovered(entries, id) && is_pending_id(entries, id) && !is_known(entries, id)
@@ -119,7 +119,7 @@ fn orders_in(entry: &Entry) -> usize
 }
 
 /// How many orders were given.
-fn order_count(entries: &[Entry]) -> usize
+pub fn order_count(entries: &[Entry]) -> usize
     ensures { result ≡ length (orders entries.now) }
 {
     let mut count = 0;
@@ -137,7 +137,7 @@ pub(crate) fn may_order(entries: &[Entry], number: u32) -> bool
 }
 
 /// Whether the order of a number may be resumed.
-pub(crate) fn may_resume(entries: &[Entry], t: u64, number: u32) -> bool
+pub fn may_resume(entries: &[Entry], t: u64, number: u32) -> bool
     ensures { IsTrue result ↔ IsTrue (list_any (λ o. o.number == number) (live_orders entries.now t)) }
 {
     for entry in entries {

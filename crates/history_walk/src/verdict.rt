@@ -94,7 +94,8 @@ impl<'h> Scene<'h> {
 
     /// What a connection may do, where its path is known.
     pub fn verdict_of(&self, opened: &Opened<'_>) -> Option<Verdict>
-        ensures { option_map told result ≡ verdict_of self.now.policy self.now.history self.now.moment (connection_of opened.now) }
+        ensures { option_map told result
+            ≡ verdict_of self.now.policy self.now.history self.now.moment (connection_of opened.now) }
     {
         let path = self.path_named(opened.path)?;
         Some(self.verdict_on(path, opened))
