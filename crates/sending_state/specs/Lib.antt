@@ -1,0 +1,4 @@
+pub mod State
+pub mod Kept
+pub mod Questions
+pub mod inside

@@ -1,0 +1,3 @@
+-- What private functions and proofs cite. No public clause does.
+
+pub mod Among
