@@ -4,6 +4,7 @@ ghost use Rattle.sending_state.specs.State.{AllExamined, IsOwed};
 
 use history_core::{Cause, Entry, Event, Next};
 use history_walk::Verdict;
+use policy_core::Order;
 use sending_state::{Acceptance, SendingState};
 use smtp_reply::Outcome;
 use std::test::Fail;
@@ -31,23 +32,42 @@ pub(crate) fn shows(state: &SendingState, entry: &Entry) -> Result<bool, Fail>
         Event::Promoted { .. } => shows_swept(state, at, &entry.what),
         Event::Delayed { .. } => shows_swept(state, at, &entry.what),
         Event::Resolved { .. } => shows_swept(state, at, &entry.what),
-        what => Ok(shows_arrival(state, at, what)),
+        what => shows_arrival(state, at, what),
     }
 }
 
 /// Whether a message, an order or the end may come.
-fn shows_arrival(state: &SendingState, at: u64, what: &Event) -> bool {
+fn shows_arrival(state: &SendingState, at: u64, what: &Event) -> Result<bool, Fail> {
     match what {
-        Event::Recovered { message, .. } => state.acceptance(message.id) == Acceptance::Fresh,
-        Event::Accepted(message) => state.acceptance(message.id) == Acceptance::Fresh,
-        Event::Known { id } => state.acceptance(*id) == Acceptance::Known,
-        Event::Ordered { number, .. } => {
-            state.order_count().checked_add(1) == Some(*number as usize)
-        }
-        Event::Resumed { number } => state.may_resume(at, *number),
-        Event::Stopped => !state.has_open(),
-        _ => false,
+        Event::Recovered { message, .. } => Ok(state.acceptance(message.id) == Acceptance::Fresh),
+        Event::Accepted(message) => Ok(state.acceptance(message.id) == Acceptance::Fresh),
+        Event::Known { id } => Ok(state.acceptance(*id) == Acceptance::Known),
+        Event::Ordered { number, order } => shows_order(state, *number, order),
+        Event::Resumed { number } => Ok(state.may_resume(at, *number)),
+        Event::Stopped => Ok(!state.has_open()),
+        _ => Ok(false),
     }
+}
+
+/// Whether an order has the next number, and a bounce meets some message that it resolves at once.
+fn shows_order(state: &SendingState, number: u32, order: &Order) -> Result<bool, Fail> {
+    let is_next = state.order_count().checked_add(1) == Some(number as usize);
+    match order {
+        Order::Bounce { criteria, .. } => {
+            Ok(is_next && are_at_rest(state, state.met_by(criteria)?.as_slice()))
+        }
+        _ => Ok(is_next),
+    }
+}
+
+/// Whether there are messages of these ids, which are pending and not being attempted.
+fn are_at_rest(state: &SendingState, ids: &[u128]) -> bool {
+    for id in ids {
+        if state.pending(*id).is_none() || state.is_in_flight(*id) {
+            return false;
+        }
+    }
+    !ids.is_empty()
 }
 
 /// Whether the sweep takes this next.
@@ -91,7 +111,7 @@ fn shows_opening(
 {
     let swept = state.next_swept(at)?;
     let is_next = match state.next_to_open(at) {
-        Some(way) => way.text == path && way.key == key,
+        Some(next) => next.text == path && next.key == key,
         None => false,
     };
     Ok(

@@ -15,16 +15,16 @@ use Rattle.history_core.specs.Limits.{limits}
 use Rattle.history_core.specs.Openable.{next_to_open, verdict_of, is_work, lingers}
 
 -- a path that may open a connection: its text, and the key that its rate of connections counts under
-pub record Way : Type 0 where
+pub record PathToOpen : Type 0 where
   pub text : List ℕ
   pub key : ℕ
 
-abbrev pub way_of : Policy → List Entry → ℕ → Path → Way
-way_of policy h t p = record { text = text_of p; key = (limits policy h t p).connection_key }
+abbrev pub path_to_open : Policy → List Entry → ℕ → Path → PathToOpen
+path_to_open policy h t p = record { text = text_of p; key = (limits policy h t p).connection_key }
 
 -- the path that may open next
-abbrev pub next_way : Policy → List Entry → ℕ → Option Way
-next_way policy h t = option_map (way_of policy h t) (next_to_open policy h t)
+abbrev pub next_path_to_open : Policy → List Entry → ℕ → Option PathToOpen
+next_path_to_open policy h t = option_map (path_to_open policy h t) (next_to_open policy h t)
 
 -- the first connection of a pass that is open and not busy and may begin an attempt
 abbrev pub first_reusable : Policy → List Entry → ℕ → ℕ → Option Connection

@@ -15,5 +15,5 @@ mod paths;
 mod state;
 
 pub use messages::Acceptance;
-pub use paths::Way;
+pub use paths::PathToOpen;
 pub use state::SendingState;

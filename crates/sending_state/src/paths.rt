@@ -12,7 +12,7 @@ ghost use Rattle.history_core.specs.Wake.{wake};
 ghost use Rattle.history_views.specs.Opened.{connection_of};
 ghost use Rattle.history_walk.specs.Verdicts.{told};
 ghost use Rattle.sending_state.specs.State.{AllExamined};
-ghost use Rattle.sending_state.specs.Questions.{next_way, first_reusable, lingers_now, at_work};
+ghost use Rattle.sending_state.specs.Questions.{next_path_to_open, first_reusable, lingers_now, at_work};
 ghost use Rattle.sending_state.specs.inside.Among.{at_work_among};
 
 use crate::state::SendingState;
@@ -23,7 +23,7 @@ use kumo_base::Memory;
 
 /// A path that may open a connection.
 #[derive(Clone, Copy)]
-pub struct Way<'h> {
+pub struct PathToOpen<'h> {
     /// The path's text.
     pub text: &'h str,
     /// The key of the rate that its opening counts under.
@@ -46,16 +46,16 @@ impl SendingState {
 
     /// The path that may open a connection next at a moment: the one whose last opening is earliest, the first promoted
     /// among equals. Where there is none, no path may.
-    pub fn next_to_open(&self, t: u64) -> Option<Way<'_>>
+    pub fn next_to_open(&self, t: u64) -> Option<PathToOpen<'_>>
         requires { AllExamined self.now }
-        ensures next { option_map (λ w. record { text = w.text.now; key = w.key }) result
-            ≡ next_way self.now.policy self.now.history t }
+        ensures next { option_map (λ p. record { text = p.text.now; key = p.key }) result
+            ≡ next_path_to_open self.now.policy self.now.history t }
         ensures none { result ≡ None
             → list_any (is_openable self.now.policy self.now.history t) (paths self.now.policy self.now.history) ≡ false }
     {
         let scene = self.scene(t);
         match scene.next_to_open() {
-            Some(path) => Some(Way {
+            Some(path) => Some(PathToOpen {
                 text: path.text.as_str(),
                 key: scene.limits(path).connection_key,
             }),
@@ -118,8 +118,8 @@ impl SendingState {
     }
 }
 
-/// Whether the entry opens a connection that is still open and is not kept with nothing to send: 1 or 0.
-fn works_in(scene: &Scene<'_>, entry: &Entry) -> usize
+/// How many connections the entry opens that are still open and are not kept with nothing to send: one or none.
+fn at_work_in(scene: &Scene<'_>, entry: &Entry) -> usize
     ensures value { (later : List an_entry) → at_work_among scene.now (entry.now ∷ later)
         ≡ result + at_work_among scene.now later }
     ensures low { result ≤ 1 }
@@ -136,7 +136,7 @@ fn at_work_among(scene: &Scene<'_>, entries: &[Entry]) -> usize
 {
     let mut count = 0;
     for entry in entries {
-        count += works_in(scene, entry);
+        count += at_work_in(scene, entry);
     }
     count
 }
