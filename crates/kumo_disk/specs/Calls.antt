@@ -1,5 +1,5 @@
 -- Several calls of a disk, one after the other, as one.
-use Rattle.std.specs.Prelude.{◌≡◌, ℕ, ◌<◌, ◌≤◌, List, length, take, IfSome}
+use Rattle.std.specs.Prelude.{ℕ, List, IfSome}
 use Rattle.kumo_disk.specs.Disk.{Image, DiskSeen, Lasts, Each, ReadMoves, Any}
 
 -- Calls that moved one area by a step, as far as a crash can tell, and never the other.
@@ -7,7 +7,3 @@ pub record Ran (area : ℕ) (step : List ℕ → List ℕ → Type 0) (old new :
   pub time : Lasts old new
   pub images : IfSome old.told (λ read. Each area step old new)
   pub reads : ReadMoves area Any old new
-
--- the first k bytes stand, or as many as there are
-abbrev pub KeepsFront : ℕ → List ℕ → List ℕ → Type 0
-KeepsFront k old new = (j : ℕ) → j ≤ k → j ≤ length old → (j ≤ length new) × (take j new ≡ take j old)

@@ -1,0 +1,4 @@
+pub mod Area
+pub mod Head
+pub mod Log
+pub mod inside
