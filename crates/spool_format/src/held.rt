@@ -2,11 +2,14 @@
 //!
 //! A payload is read in two steps: its fields, each borrowed from it, and the message that they give. So a payload that is
 //! not proper costs no copy of a body.
-ghost use Rattle.std.specs.Prelude.{◌≡◌, ◌++◌, [], length, option_map, Some, IfOk, IfErr, OnOk, OnErr};
+ghost use Rattle.std.specs.Prelude.{◌≡◌, ◌<◌, ◌^◌, ◌==◌, ◌&&◌, ◌||◌, nat_le, ◌++◌, [], length, option_map, unwrap_or, Some, IfOk, IfErr, OnOk, OnErr, IsTrue};
+ghost use Rattle.queue_name.specs.Address.{is_address};
+ghost use Rattle.queue_name.specs.NameText.{if_any};
+ghost use Rattle.queue_name.specs.QueueName.{is_name};
 ghost use Rattle.queue_name.specs.Message.{IsProperMessage};
 ghost use Rattle.spool_format.specs.Fields.{text_field};
-ghost use Rattle.spool_format.specs.Held.{held_payload, held_in, fields_in, if_proper, message_of, keeps_rules, IsFaultOf};
-ghost use Rattle.spool_format.specs.inside.Borrowed.{fields_of};
+ghost use Rattle.spool_format.specs.Held.{held_payload, held_in, fields_in, if_proper, message_of, IsFaultOf};
+ghost use Rattle.spool_format.specs.inside.Borrowed.{fields_of, IsNoName};
 
 use crate::fault::FormatFault;
 use crate::fields::{id_at, moment_at, text_at};

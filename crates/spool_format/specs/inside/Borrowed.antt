@@ -1,5 +1,8 @@
--- The fields of a payload as the code borrows them.
+-- The fields of a payload as the code borrows them, and the answer about their name.
+use Rattle.std.specs.Prelude.{◌≡◌, Bool, false, ⊤}
 use Rattle.spool_format.specs.Held.{HeldFields}
+use Rattle.spool_format.specs.declared.fault.FormatFault.{FormatFault}
+use Rattle.spool_format.specs.declared.fault.FormatFault.TheVariants as fault
 use Rattle.spool_format.specs.declared.held.BorrowedFields.{BorrowedFields}
 
 abbrev pub fields_of : BorrowedFields → HeldFields
@@ -12,3 +15,8 @@ fields_of f = record {
   tenant = f.tenant.now;
   body = f.body.now;
 }
+
+-- a refusal other than for memory comes where the fields make no name
+abbrev pub IsNoName : FormatFault → Bool → Type 0
+IsNoName fault.Malformed named = named ≡ false
+IsNoName fault.Memory named = ⊤
