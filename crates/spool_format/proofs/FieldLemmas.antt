@@ -110,3 +110,10 @@ pub alone_is : {A : Type 0} (value y : A) (rest : List ℕ) → alone value rest
 alone_is value y rest e =
     let c = cond_some (length rest == 0) value y e in
     (c.1, nil_from_length rest (eqb-true _ _ c.0))
+
+-- a payload that is one field: as long as that, and that where it is bytes
+pub splits_length : (p field : List ℕ) → Splits p field [] → length p ≡ length field
+splits_length p field s = omega (arith, s.len)
+
+pub splits_whole : (p field : List ℕ) → Splits p field [] → IsBytes p → field ≡ p
+splits_whole p field s are = sym ((s.whole are).0 ∙ append-nil field)

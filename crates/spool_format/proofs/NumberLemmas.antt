@@ -1,6 +1,7 @@
 -- Numbers of 16 bytes, by their two halves: what was written is read, and what is read was written so.
 use Rattle.std.proofs.Common.{◌≡◌, ℕ, zero, suc, ◌+◌, ◌*◌, ◌/◌, ◌%◌, ◌^◌, ◌<◌, ◌≤◌, List, [], ◌∷◌, ◌++◌, length, get_or, take, drop, refl, sym, ap, ◌∙◌, arith, inl, inr}
 use Rattle.std.specs.Int.{Width, w32, w64, w128, byte_len, from_be_bytes, to_be_bytes}
+use Rattle.std.proofs.Math.Nat.{div-div-eq-div-mul}
 use Rattle.std.proofs.lemmas.Bool.{cases_lt}
 use Rattle.std.proofs.lemmas.List.{take-append-drop, length-take, length-drop, get_or-drop, get_or-take, get_or_past}
 use Rattle.std.proofs.lemmas.Nat.{be_bytes_4, be_bytes_8, from_be_bytes-to_be_bytes_4, from_be_bytes-to_be_bytes_8, div-mul-add, mod-mul-add}
@@ -17,9 +18,31 @@ IsBytes-take n bytes are i = elim (cases_lt i n) [
   | inr le ↦ rw (get_or_past (take n bytes) i 0 (omega (arith, length-take n bytes))) (omega arith)
 ]
 
+-- a byte of the upper half, and one of the lower half
+upper : (h l c : ℕ) → l < 2 ^ 64 → (h * 2 ^ 64 + l) / (2 ^ 64 * c) % 256 ≡ h / c % 256
+upper h l c small =
+    ap (λ k. k % 256) (sym (div-div-eq-div-mul (h * 2 ^ 64 + l) (2 ^ 64) c) ∙ ap (λ k. k / c) (div-mul-add h (2 ^ 64) l small))
+
 -- the bytes of two halves
 halves_written : (h l : ℕ) → l < 2 ^ 64 → to_be_bytes w128 (h * 2 ^ 64 + l) ≡ to_be_bytes w64 h ++ to_be_bytes w64 l
-halves_written h l small = ?
+halves_written h l small =
+    let upper_7 = upper h l 72057594037927936 small in
+    let upper_6 = upper h l 281474976710656 small in
+    let upper_5 = upper h l 1099511627776 small in
+    let upper_4 = upper h l 4294967296 small in
+    let upper_3 = upper h l 16777216 small in
+    let upper_2 = upper h l 65536 small in
+    let upper_1 = upper h l 256 small in
+    let upper_0 : (h * 2 ^ 64 + l) / 2 ^ 64 % 256 ≡ h % 256 = ap (λ k. k % 256) (div-mul-add h (2 ^ 64) l small) in
+    let lower_7 : (h * 2 ^ 64 + l) / 72057594037927936 % 256 ≡ l / 72057594037927936 % 256 = omega arith in
+    let lower_6 : (h * 2 ^ 64 + l) / 281474976710656 % 256 ≡ l / 281474976710656 % 256 = omega arith in
+    let lower_5 : (h * 2 ^ 64 + l) / 1099511627776 % 256 ≡ l / 1099511627776 % 256 = omega arith in
+    let lower_4 : (h * 2 ^ 64 + l) / 4294967296 % 256 ≡ l / 4294967296 % 256 = omega arith in
+    let lower_3 : (h * 2 ^ 64 + l) / 16777216 % 256 ≡ l / 16777216 % 256 = omega arith in
+    let lower_2 : (h * 2 ^ 64 + l) / 65536 % 256 ≡ l / 65536 % 256 = omega arith in
+    let lower_1 : (h * 2 ^ 64 + l) / 256 % 256 ≡ l / 256 % 256 = omega arith in
+    let lower_0 : (h * 2 ^ 64 + l) % 256 ≡ l % 256 = omega arith in
+    λ i. upper_7 i ∷ upper_6 i ∷ upper_5 i ∷ upper_4 i ∷ upper_3 i ∷ upper_2 i ∷ upper_1 i ∷ upper_0 i ∷ lower_7 i ∷ lower_6 i ∷ lower_5 i ∷ lower_4 i ∷ lower_3 i ∷ lower_2 i ∷ lower_1 i ∷ lower_0 i ∷ []
 
 -- a number of 16 bytes has two halves
 halves_read : (bytes : List ℕ) → from_be_bytes w128 bytes ≡ from_be_bytes w64 (take 8 bytes) * 2 ^ 64 + from_be_bytes w64 (drop 8 bytes)

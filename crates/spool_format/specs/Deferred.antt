@@ -12,7 +12,7 @@ pub record IsProperDeferral (d : Deferral) : Type 0 where
   pub failures : d.failures < 2 ^ 32
   pub due : d.due ≤ latest_moment
 
-abbrev pub deferred_payload : Deferral → List ℕ
+unfoldable pub deferred_payload : Deferral → List ℕ
 deferred_payload d = to_be_bytes w128 d.id ++ (to_be_bytes w32 d.failures ++ to_be_bytes w64 d.due)
 
 abbrev pub is_proper_deferral : Deferral → Bool

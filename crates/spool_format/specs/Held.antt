@@ -1,5 +1,6 @@
 -- The payload of a record that holds a message.
-use Rattle.std.specs.Prelude.{◌≡◌, ℕ, ◌==◌, ◌^◌, nat_lt, nat_le, List, [], ◌++◌, length, Bool, ◌&&◌, ◌||◌, Option, Some, None, unwrap_or, if◌then◌else◌, ⊤}
+use Rattle.std.specs.Prelude.{◌≡◌, ℕ, ◌==◌, ◌^◌, nat_lt, nat_le, List, [], ◌++◌, length, Bool, ◌&&◌, ◌||◌, Option, Some, None, unwrap_or, IfSome, IsTrue, if◌then◌else◌, ⊤}
+use Rattle.std.specs.Str.{is_utf8}
 use Rattle.std.specs.Int.{w64, w128, to_be_bytes}
 use Rattle.kumo_base.specs.Limits.{latest_moment}
 use Rattle.queue_name.specs.Address.{is_address, domain_of}
@@ -12,10 +13,18 @@ use Rattle.spool_format.specs.declared.fault.FormatFault.{FormatFault}
 use Rattle.spool_format.specs.declared.fault.FormatFault.TheVariants as fault
 
 -- the bytes of a message; a text of length 0 stands for an absent campaign or tenant, and the name's domain is not written
-abbrev pub held_payload : Message → List ℕ
+unfoldable pub held_payload : Message → List ℕ
 held_payload m =
     to_be_bytes w128 m.id ++ (to_be_bytes w64 m.created ++ (text_field m.sender ++ (text_field m.recipient
     ++ (text_field (unwrap_or m.name.campaign []) ++ (text_field (unwrap_or m.name.tenant []) ++ text_field m.body)))))
+
+-- each text of a message is UTF-8
+pub record IsInUtf8 (m : Message) : Type 0 where
+  pub sender : IsTrue (is_utf8 m.sender)
+  pub recipient : IsTrue (is_utf8 m.recipient)
+  pub campaign : IfSome m.name.campaign (λ c. IsTrue (is_utf8 c))
+  pub tenant : IfSome m.name.tenant (λ t. IsTrue (is_utf8 t))
+  pub body : IsTrue (is_utf8 m.body)
 
 -- the fields as they stand in a payload
 pub record HeldFields : Type 0 where

@@ -4,7 +4,7 @@ use Rattle.std.specs.Int.{w128, to_be_bytes}
 use Rattle.spool_format.specs.Fields.{◌>>=◌, number_at, alone}
 
 -- the bytes of an id
-abbrev pub settled_payload : ℕ → List ℕ
+unfoldable pub settled_payload : ℕ → List ℕ
 settled_payload id = to_be_bytes w128 id
 
 abbrev pub if_id : ℕ → Option ℕ

@@ -17,6 +17,7 @@ pub struct Deferral {
 }
 
 /// The bytes of a deferral.
+#[tactic(auto, unfolding(crate::specs::Deferred::deferred_payload))]
 pub fn write_deferred(deferral: Deferral) -> [u8; 28]
     ensures { result ≡ deferred_payload deferral }
 {

@@ -47,6 +47,7 @@ pub fn write_held(message: &Message, out: &mut Vec<u8>) -> Result<(), Memory>
 }
 
 /// How many bytes `write_held` writes of a message.
+#[tactic(auto, unfolding(crate::specs::Held::held_payload))]
 pub fn held_length(message: &Message) -> u64
     requires proper { IsProperMessage message.now }
     ensures { result ≡ length (held_payload message.now) }

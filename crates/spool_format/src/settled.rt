@@ -5,6 +5,7 @@ ghost use Rattle.spool_format.specs.Settled.{settled_payload, settled_in};
 use crate::fields::id_at;
 
 /// The bytes that settle the message of this id.
+#[tactic(auto, unfolding(crate::specs::Settled::settled_payload))]
 pub fn write_settled(id: u128) -> [u8; 16]
     ensures { result ≡ settled_payload id }
 {
