@@ -71,7 +71,7 @@ utf8_is bytes text e = cond_some (is_utf8 bytes) bytes text e
 
 pub text_splits : (bytes : List ℕ) (x : List ℕ × List ℕ) → text_at bytes ≡ Some x
     → Splits bytes (text_field x.0) x.1 × IsTrue (is_utf8 x.0)
-unfolding text_at
+unfolding text_at text_field
 text_splits bytes x e =
     let s = bind_some (number_at w32 bytes) _ x e in
     let f = bind_some (bytes_at s.0.0 s.0.1) _ x s.2 in
@@ -98,6 +98,7 @@ unfolding text_at
 text_chain bytes behind text rest n e0 e1 e2 = rw (e0, e1, e2) refl
 
 pub text_again : (text rest : List ℕ) → length text < 2 ^ 32 → IsTrue (is_utf8 text) → text_at (text_field text ++ rest) ≡ Some (text, rest)
+unfolding text_field
 text_again text rest short utf8 =
     let size : number_at w32 (to_be_bytes w32 (length text) ++ (text ++ rest)) ≡ Some (length text, text ++ rest) =
     number_again w32 (2 ^ 32) exact_32 (length text) (text ++ rest) short in

@@ -22,3 +22,7 @@ unfolding held_payload
 put_together m o a b c d e f g p0 p1 p2 p3 p4 p5 p6 =
     regrouped o a b c d e f g
     ∙ (λ i. o ++ (p0 i ++ (p1 i ++ (p2 i ++ (p3 i ++ (p4 i ++ (p5 i ++ p6 i)))))))
+
+-- one more piece behind pieces
+pub appended : (new old piece front : List ℕ) → new ≡ old ++ piece → old ≡ front → new ≡ front ++ piece
+appended new old piece front e is = e ∙ ap (λ (xs : List ℕ). xs ++ piece) is

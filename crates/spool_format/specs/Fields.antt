@@ -4,7 +4,7 @@ use Rattle.std.specs.Int.{Width, w32, byte_len, to_be_bytes, from_be_bytes}
 use Rattle.kumo_base.specs.Utf8.{utf8_in}
 
 -- the length in four bytes, and the text
-abbrev pub text_field : List ℕ → List ℕ
+unfoldable pub text_field : List ℕ → List ℕ
 text_field text = to_be_bytes w32 (length text) ++ text
 
 -- the next reading of the value, where there is one

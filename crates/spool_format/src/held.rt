@@ -47,7 +47,7 @@ pub fn write_held(message: &Message, out: &mut Vec<u8>) -> Result<(), Memory>
 }
 
 /// How many bytes `write_held` writes of a message.
-#[tactic(auto, unfolding(crate::specs::Held::held_payload))]
+#[tactic(auto, unfolding(crate::specs::Held::held_payload, crate::specs::Fields::text_field))]
 pub fn held_length(message: &Message) -> u64
     requires proper { IsProperMessage message.now }
     ensures { result ≡ length (held_payload message.now) }
@@ -90,6 +90,7 @@ fn put_message(message: &Message, out: &mut Vec<u8>) -> Result<(), Memory>
 }
 
 /// Appends a text with its length before it. After `Memory` the buffer has some of it.
+#[tactic(auto, unfolding(crate::specs::Fields::text_field))]
 fn put_text(text: &str, out: &mut Vec<u8>) -> Result<(), Memory>
     requires short { length text.now < 2 ^ 32 }
     ensures { OnOk result (out.new.items ≡ out.old.items ++ text_field text.now) }
