@@ -1,5 +1,5 @@
 -- Fields that are split off the front: how long they are, that they were written so, and that what was written is read.
-use Rattle.std.proofs.Common.{◌≡◌, ℕ, ◌+◌, ◌^◌, ◌<◌, ◌≤◌, Bool, true, false, cond, List, [], ◌∷◌, ◌++◌, length, take, drop, Option, Some, None, nat_le, ◌==◌, IsTrue, refl, sym, ap, subst, ◌∙◌, append_assoc, arith}
+use Rattle.std.proofs.Common.{◌≡◌, ℕ, ◌+◌, ◌^◌, ◌<◌, ◌≤◌, true, List, [], ◌++◌, length, take, drop, Option, Some, None, nat_le, ◌==◌, IsTrue, refl, sym, ap, subst, ◌∙◌, append_assoc, arith}
 use Rattle.std.specs.Int.{Width, w32, byte_len, from_be_bytes, to_be_bytes}
 use Rattle.std.specs.Str.{is_utf8}
 use Rattle.std.proofs.lemmas.Bool.{leb-true, le-leb, eqb-true}
@@ -54,10 +54,11 @@ number_splits w limit exact bytes x e =
       len = omega (arith, exact.len x.0, ap length rest_is, length-drop (byte_len w) bytes, parts.0);
       whole = λ are.
           let written : to_be_bytes w x.0 ≡ take (byte_len w) bytes =
-          ap (to_be_bytes w) (sym n_is) ∙ exact.back (take (byte_len w) bytes) front_len (IsBytes-take (byte_len w) bytes are) in
-          (sym (take-append-drop (byte_len w) bytes) ∙ ap (λ (r : List ℕ). take (byte_len w) bytes ++ r) rest_is
-          ∙ ap (λ (r : List ℕ). r ++ x.1) (sym written),
-          subst IsBytes rest_is (IsBytes-drop (byte_len w) bytes are));
+          ap (to_be_bytes w) (sym n_is) ∙ exact.back (take (byte_len w) bytes) front_len (IsBytes-take (byte_len w) bytes are) in (
+            sym (take-append-drop (byte_len w) bytes) ∙ ap (λ (r : List ℕ). take (byte_len w) bytes ++ r) rest_is
+                ∙ ap (λ (r : List ℕ). r ++ x.1) (sym written),
+            subst IsBytes rest_is (IsBytes-drop (byte_len w) bytes are),
+          );
     }
 
 pub number_again : (w : Width) (limit : ℕ) → IsExact w limit → (n : ℕ) (rest : List ℕ) → n < limit
@@ -85,12 +86,15 @@ text_splits bytes x e =
     let text_len : s.0.0 ≡ length x.0 = omega (arith, ap length text_is, length-take s.0.0 s.0.1, parts.0) in
     let behind : Splits s.0.1 x.0 x.1 = record {
       len = omega (arith, ap length text_is, ap length rest_is, length-take s.0.0 s.0.1, length-drop s.0.0 s.0.1, parts.0);
-      whole = λ are. (sym (take-append-drop s.0.0 s.0.1) ∙ ap (λ (r : List ℕ). r ++ drop s.0.0 s.0.1) text_is ∙ ap (λ (r : List ℕ). x.0 ++ r) rest_is,
-          subst IsBytes rest_is (IsBytes-drop s.0.0 s.0.1 are));
+      whole = λ are. (
+        sym (take-append-drop s.0.0 s.0.1) ∙ ap (λ (r : List ℕ). r ++ drop s.0.0 s.0.1) text_is ∙ ap (λ (r : List ℕ). x.0 ++ r) rest_is,
+        subst IsBytes rest_is (IsBytes-drop s.0.0 s.0.1 are),
+      );
     } in
-    let size_is : Splits bytes (to_be_bytes w32 (length x.0)) s.0.1 = subst (λ (k : ℕ). Splits bytes (to_be_bytes w32 k) s.0.1) text_len size in
-    (splits_then bytes (to_be_bytes w32 (length x.0)) s.0.1 x.0 x.1 size_is behind,
-    subst (λ (r : List ℕ). IsTrue (is_utf8 r)) (utf8.1 ∙ ap (λ (p : List ℕ × List ℕ). p.0) is) utf8.0)
+    let size_is : Splits bytes (to_be_bytes w32 (length x.0)) s.0.1 = subst (λ (k : ℕ). Splits bytes (to_be_bytes w32 k) s.0.1) text_len size in (
+      splits_then bytes (to_be_bytes w32 (length x.0)) s.0.1 x.0 x.1 size_is behind,
+      subst (λ (r : List ℕ). IsTrue (is_utf8 r)) (utf8.1 ∙ ap (λ (p : List ℕ × List ℕ). p.0) is) utf8.0,
+    )
 
 text_chain : (bytes behind text rest : List ℕ) (n : ℕ) → number_at w32 bytes ≡ Some (n, behind)
     → bytes_at n behind ≡ Some (text, rest) → utf8_in text ≡ Some text → text_at bytes ≡ Some (text, rest)

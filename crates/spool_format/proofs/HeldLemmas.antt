@@ -1,9 +1,8 @@
 -- Held payloads: what was written is read, and what is read was written so and is proper.
-use Rattle.std.proofs.Common.{◌≡◌, ℕ, ◌+◌, ◌^◌, ◌<◌, ◌≤◌, ◌⊎◌, inl, inr, Bool, true, false, List, [], ◌∷◌, ◌++◌, length, Option, Some, None, nat_le, nat_lt, ◌==◌, ◌&&◌, ◌||◌, IsTrue, refl, sym, ap, subst, ◌∙◌, arith}
+use Rattle.std.proofs.Common.{◌≡◌, ℕ, ◌^◌, ◌⊎◌, inl, inr, Bool, true, List, [], ◌∷◌, ◌++◌, length, Option, Some, None, nat_le, nat_lt, ◌==◌, ◌&&◌, ◌||◌, IsTrue, refl, sym, ap, subst, ◌∙◌, arith}
 use Rattle.std.specs.Prelude.{unwrap_or, IfSome, if◌then◌else◌}
-use Rattle.std.specs.Int.{w32, w64, w128, to_be_bytes}
+use Rattle.std.specs.Int.{w64, w128, to_be_bytes}
 use Rattle.std.specs.Str.{is_utf8}
-use Rattle.std.specs.List.{list_all}
 use Rattle.std.proofs.lemmas.Bool.{and_parts, or_cases, or_left, or_right, leb-true, le-leb, ltb-true, lt-ltb, eqb-true}
 use Rattle.std.proofs.lemmas.List.{append-nil, nil_from_length}
 use Rattle.std.proofs.lemmas.Option.{cond_some}
@@ -12,13 +11,13 @@ use Rattle.kumo_base.specs.Limits.{latest_moment}
 use Rattle.queue_name.specs.Address.{is_address, domain_of}
 use Rattle.queue_name.specs.Limits.{body_limit}
 use Rattle.queue_name.specs.NameText.{if_any}
-use Rattle.queue_name.specs.QueueName.{is_name, is_optional_component, is_component, is_component_byte, is_domain, spelling}
+use Rattle.queue_name.specs.QueueName.{is_name, is_optional_component, is_domain, spelling}
 use Rattle.queue_name.specs.Message.{IsProperMessage}
 use Rattle.queue_name.specs.declared.message.Message.{Message}
 use Rattle.queue_name.specs.Limits.{name_limit}
-use Rattle.spool_format.specs.Fields.{◌>>=◌, text_field, number_at, text_at, alone}
+use Rattle.spool_format.specs.Fields.{◌>>=◌, text_field, number_at, text_at}
 use Rattle.spool_format.specs.Held.{HeldFields, held_payload, fields_in, message_of, keeps_rules, if_proper, held_in, IsInUtf8}
-use Rattle.spool_format.proofs.NumberLemmas.{IsBytes, exact_32, exact_64, exact_128}
+use Rattle.spool_format.proofs.NumberLemmas.{exact_64, exact_128}
 use Rattle.spool_format.proofs.FieldLemmas.{bind_some, Splits, splits_then, number_splits, number_again, text_splits, text_again, alone_is}
 use Rattle.spool_format.proofs.LengthLemmas.{short}
 
@@ -60,10 +59,11 @@ fields_parts p f e =
     let t2 = splits_then _ _ _ _ _ s2.0 t3 in
     let t1 = splits_then _ _ _ _ _ s1 t2 in
     let t0 : Splits p (fields_payload made) body.0.1 = splits_then _ _ _ _ _ s0 t1 in
-    let texts : AreTexts made = record { sender = s2.1; recipient = s3.1; campaign = s4.1; tenant = s5.1; body = s6.1 } in
-    (subst (λ (g : HeldFields). Splits p (fields_payload g) []) only.0
-    (subst (λ (r : List ℕ). Splits p (fields_payload made) r) only.1 t0),
-    subst AreTexts only.0 texts)
+    let texts : AreTexts made = record { sender = s2.1; recipient = s3.1; campaign = s4.1; tenant = s5.1; body = s6.1 } in (
+      subst (λ (g : HeldFields). Splits p (fields_payload g) []) only.0
+          (subst (λ (r : List ℕ). Splits p (fields_payload made) r) only.1 t0),
+      subst AreTexts only.0 texts,
+    )
 
 or_any : (xs : List ℕ) → unwrap_or (if_any xs) [] ≡ xs
 or_any [] = refl

@@ -1,12 +1,12 @@
 -- How long the texts of a message are.
-use Rattle.std.proofs.Common.{◌≡◌, ℕ, ◌+◌, ◌^◌, ◌<◌, ◌≤◌, ◌⊎◌, inl, inr, true, List, [], ◌∷◌, ◌++◌, length, Option, Some, None, nat_le, ◌&&◌, IsTrue, ap, subst, arith}
+use Rattle.std.proofs.Common.{◌≡◌, ℕ, ◌≤◌, ◌⊎◌, inl, inr, List, [], ◌∷◌, ◌++◌, length, Option, Some, None, nat_le, IsTrue, ap, arith}
 use Rattle.std.specs.Prelude.{unwrap_or, nat_lt}
 use Rattle.std.specs.List.{list_all, list_any, before_last}
 use Rattle.std.proofs.lemmas.Bool.{and_parts, leb-true}
 use Rattle.std.proofs.lemmas.List.{length-append}
 use Rattle.queue_name.specs.Address.{is_address, is_address_byte, is_at, is_routed_domain, domain_of}
 use Rattle.queue_name.specs.Limits.{name_limit, address_limit, body_limit}
-use Rattle.queue_name.specs.QueueName.{Name, is_name, is_optional_component, is_domain, spelled}
+use Rattle.queue_name.specs.QueueName.{Name, is_name, spelled}
 use Rattle.queue_name.specs.Message.{IsProperMessage}
 use Rattle.queue_name.specs.declared.message.Message.{Message}
 

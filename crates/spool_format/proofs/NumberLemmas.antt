@@ -1,10 +1,10 @@
 -- Numbers of 16 bytes, by their two halves: what was written is read, and what is read was written so.
-use Rattle.std.proofs.Common.{◌≡◌, ℕ, zero, suc, ◌+◌, ◌*◌, ◌/◌, ◌%◌, ◌^◌, ◌<◌, ◌≤◌, List, [], ◌∷◌, ◌++◌, length, get_or, take, drop, refl, sym, ap, ◌∙◌, arith, inl, inr}
+use Rattle.std.proofs.Common.{◌≡◌, ℕ, ◌+◌, ◌*◌, ◌/◌, ◌%◌, ◌^◌, ◌<◌, List, [], ◌∷◌, ◌++◌, length, get_or, take, drop, refl, sym, ap, ◌∙◌, arith, inl, inr}
 use Rattle.std.specs.Int.{Width, w32, w64, w128, byte_len, from_be_bytes, to_be_bytes}
 use Rattle.std.proofs.Math.Nat.{div-div-eq-div-mul}
 use Rattle.std.proofs.lemmas.Bool.{cases_lt}
 use Rattle.std.proofs.lemmas.List.{take-append-drop, length-take, length-drop, get_or-drop, get_or-take, get_or_past}
-use Rattle.std.proofs.lemmas.Nat.{be_bytes_4, be_bytes_8, from_be_bytes-to_be_bytes_4, from_be_bytes-to_be_bytes_8, div-mul-add, mod-mul-add}
+use Rattle.std.proofs.lemmas.Nat.{be_bytes_4, be_bytes_8, from_be_bytes-to_be_bytes_4, from_be_bytes-to_be_bytes_8, div-mul-add}
 
 abbrev pub IsBytes : List ℕ → Type 0
 IsBytes bytes = (i : ℕ) → get_or bytes i 0 < 256
@@ -46,11 +46,25 @@ halves_written h l small =
 
 -- a number of 16 bytes has two halves
 halves_read : (bytes : List ℕ) → from_be_bytes w128 bytes ≡ from_be_bytes w64 (take 8 bytes) * 2 ^ 64 + from_be_bytes w64 (drop 8 bytes)
-halves_read bytes = omega (arith,
-  get_or-take 8 bytes 0 0 (omega arith), get_or-take 8 bytes 1 0 (omega arith), get_or-take 8 bytes 2 0 (omega arith), get_or-take 8 bytes 3 0 (omega arith),
-  get_or-take 8 bytes 4 0 (omega arith), get_or-take 8 bytes 5 0 (omega arith), get_or-take 8 bytes 6 0 (omega arith), get_or-take 8 bytes 7 0 (omega arith),
-  get_or-drop 8 bytes 0 0, get_or-drop 8 bytes 1 0, get_or-drop 8 bytes 2 0, get_or-drop 8 bytes 3 0,
-  get_or-drop 8 bytes 4 0, get_or-drop 8 bytes 5 0, get_or-drop 8 bytes 6 0, get_or-drop 8 bytes 7 0)
+halves_read bytes = omega (
+  arith,
+  get_or-take 8 bytes 0 0 (omega arith),
+  get_or-take 8 bytes 1 0 (omega arith),
+  get_or-take 8 bytes 2 0 (omega arith),
+  get_or-take 8 bytes 3 0 (omega arith),
+  get_or-take 8 bytes 4 0 (omega arith),
+  get_or-take 8 bytes 5 0 (omega arith),
+  get_or-take 8 bytes 6 0 (omega arith),
+  get_or-take 8 bytes 7 0 (omega arith),
+  get_or-drop 8 bytes 0 0,
+  get_or-drop 8 bytes 1 0,
+  get_or-drop 8 bytes 2 0,
+  get_or-drop 8 bytes 3 0,
+  get_or-drop 8 bytes 4 0,
+  get_or-drop 8 bytes 5 0,
+  get_or-drop 8 bytes 6 0,
+  get_or-drop 8 bytes 7 0,
+)
 
 below_64 : (bytes : List ℕ) → IsBytes bytes → from_be_bytes w64 bytes < 2 ^ 64
 below_64 bytes are = omega (arith, are 0, are 1, are 2, are 3, are 4, are 5, are 6, are 7)

@@ -1,5 +1,5 @@
 -- The texts of a message in memory, and its payload put together from the front.
-use Rattle.std.proofs.Common.{◌≡◌, ℕ, List, [], ◌++◌, append_assoc, ap, sym, ◌∙◌, refl}
+use Rattle.std.proofs.Common.{◌≡◌, ℕ, List, [], ◌++◌, append_assoc, ap, ◌∙◌}
 use Rattle.std.specs.Prelude.{unwrap_or}
 use Rattle.std.specs.Int.{w64, w128, to_be_bytes}
 use Rattle.queue_name.specs.declared.message.Message.{Message}

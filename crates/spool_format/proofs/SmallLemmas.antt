@@ -1,15 +1,15 @@
 -- Settled and deferred payloads: what was written is read, and what is read was written so.
-use Rattle.std.proofs.Common.{◌≡◌, ℕ, ◌+◌, ◌^◌, ◌<◌, ◌≤◌, Bool, true, false, if◌then◌else◌, List, [], ◌∷◌, ◌++◌, length, Option, Some, None, nat_le, nat_lt, ◌&&◌, IsTrue, refl, sym, ap, subst, ◌∙◌, arith}
+use Rattle.std.proofs.Common.{◌≡◌, ℕ, ◌^◌, ◌<◌, Bool, true, if◌then◌else◌, List, [], ◌++◌, length, Some, None, nat_le, nat_lt, ◌&&◌, refl, sym, ap, subst, ◌∙◌, arith}
 use Rattle.std.specs.Int.{w32, w64, w128, to_be_bytes}
 use Rattle.std.proofs.lemmas.Bool.{and_parts, leb-true, le-leb, ltb-true, lt-ltb}
 use Rattle.std.proofs.lemmas.List.{append-nil}
-use Rattle.std.proofs.lemmas.Option.{cond_some, same_Some}
+use Rattle.std.proofs.lemmas.Option.{cond_some}
 use Rattle.kumo_base.specs.Limits.{latest_moment}
-use Rattle.spool_format.specs.Fields.{◌>>=◌, number_at, alone}
-use Rattle.spool_format.specs.Settled.{settled_payload, settled_in, if_id}
-use Rattle.spool_format.specs.Deferred.{IsProperDeferral, deferred_payload, deferred_in, is_proper_deferral, if_proper_deferral}
+use Rattle.spool_format.specs.Fields.{number_at, alone}
+use Rattle.spool_format.specs.Settled.{settled_payload, settled_in}
+use Rattle.spool_format.specs.Deferred.{IsProperDeferral, deferred_payload, deferred_in, is_proper_deferral}
 use Rattle.spool_format.specs.declared.deferred.Deferral.{Deferral}
-use Rattle.spool_format.proofs.NumberLemmas.{IsBytes, exact_32, exact_64, exact_128}
+use Rattle.spool_format.proofs.NumberLemmas.{exact_32, exact_64, exact_128}
 use Rattle.spool_format.proofs.FieldLemmas.{bind_some, Splits, splits_then, number_splits, number_again, alone_is}
 
 -- ---- settled
@@ -22,9 +22,10 @@ settled_parts p id e =
     let c = cond_some (nat_lt a.0 (2 ^ 128)) a.0 id a.2 in
     let only = alone_is n.0.0 a.0 n.0.1 a.1 in
     let first = number_splits w128 (2 ^ 128) exact_128 p n.0 n.1 in
-    let is : n.0.0 ≡ id = only.0 ∙ c.1 in
-    (subst (λ (k : ℕ). Splits p (to_be_bytes w128 k) []) is (subst (λ (r : List ℕ). Splits p (to_be_bytes w128 n.0.0) r) only.1 first),
-    subst (λ (k : ℕ). k < 2 ^ 128) c.1 (ltb-true _ _ c.0))
+    let is : n.0.0 ≡ id = only.0 ∙ c.1 in (
+      subst (λ (k : ℕ). Splits p (to_be_bytes w128 k) []) is (subst (λ (r : List ℕ). Splits p (to_be_bytes w128 n.0.0) r) only.1 first),
+      subst (λ (k : ℕ). k < 2 ^ 128) c.1 (ltb-true _ _ c.0),
+    )
 
 settled_chain : (p : List ℕ) (id : ℕ) → number_at w128 p ≡ Some (id, []) → nat_lt id (2 ^ 128) ≡ true → settled_in p ≡ Some id
 unfolding settled_in
@@ -73,10 +74,11 @@ deferred_parts p d e =
     let third = number_splits w64 (2 ^ 64) exact_64 failures.0.1 due.0 due.1 in
     let last = splits_then id.0.1 (to_be_bytes w32 failures.0.0) failures.0.1 (to_be_bytes w64 due.0.0) due.0.1 second third in
     let all =
-    splits_then p (to_be_bytes w128 id.0.0) id.0.1 (to_be_bytes w32 failures.0.0 ++ to_be_bytes w64 due.0.0) due.0.1 first last in
-    (subst (λ (x : Deferral). Splits p (deferred_payload x) []) is
-    (subst (λ (r : List ℕ). Splits p (deferred_payload made) r) only.1 all),
-    subst IsProperDeferral c.1 (proper_deferral a.0 c.0))
+    splits_then p (to_be_bytes w128 id.0.0) id.0.1 (to_be_bytes w32 failures.0.0 ++ to_be_bytes w64 due.0.0) due.0.1 first last in (
+      subst (λ (x : Deferral). Splits p (deferred_payload x) []) is
+          (subst (λ (r : List ℕ). Splits p (deferred_payload made) r) only.1 all),
+      subst IsProperDeferral c.1 (proper_deferral a.0 c.0),
+    )
 
 deferred_chain : (p behind more : List ℕ) (d : Deferral) → number_at w128 p ≡ Some (d.id, behind)
     → number_at w32 behind ≡ Some (d.failures, more) → number_at w64 more ≡ Some (d.due, []) → is_proper_deferral d ≡ true

@@ -46,7 +46,15 @@ fields_in payload = do
   campaign ← text_at recipient.1
   tenant ← text_at campaign.1
   body ← text_at tenant.1
-  alone (record { id = id.0; created = created.0; sender = sender.0; recipient = recipient.0; campaign = campaign.0; tenant = tenant.0; body = body.0 }) body.1
+  alone (record {
+    id = id.0;
+    created = created.0;
+    sender = sender.0;
+    recipient = recipient.0;
+    campaign = campaign.0;
+    tenant = tenant.0;
+    body = body.0;
+  }) body.1
 
 -- the message of these fields, in the queue of its recipient's domain
 abbrev pub message_of : HeldFields → Message

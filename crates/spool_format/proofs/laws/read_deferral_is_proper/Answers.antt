@@ -1,4 +1,3 @@
-use Rattle.std.proofs.Common.{◌≡◌, ℕ, [], ◌+◌, length, arith}
 use Rattle.spool_format.proofs.SmallLemmas.{deferred_parts}
 use Rattle.spool_format.proofs.FieldLemmas.{splits_length}
 use Rattle.spool_format.proofs.laws.read_deferral_is_proper.Goals as goal
