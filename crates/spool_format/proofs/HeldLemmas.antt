@@ -34,6 +34,24 @@ record AreTexts (f : HeldFields) : Type 0 where
   pub tenant : IsTrue (is_utf8 f.tenant)
   pub body : IsTrue (is_utf8 f.body)
 
+-- fields that were split off one after another, with nothing behind the last
+joined : (p r1 r2 r3 r4 r5 r6 r7 : List ℕ) (g f : HeldFields) → g ≡ f → r7 ≡ [] → Splits p (to_be_bytes w128 g.id) r1
+    → Splits r1 (to_be_bytes w64 g.created) r2 → Splits r2 (text_field g.sender) r3 × IsTrue (is_utf8 g.sender)
+    → Splits r3 (text_field g.recipient) r4 × IsTrue (is_utf8 g.recipient)
+    → Splits r4 (text_field g.campaign) r5 × IsTrue (is_utf8 g.campaign)
+    → Splits r5 (text_field g.tenant) r6 × IsTrue (is_utf8 g.tenant) → Splits r6 (text_field g.body) r7 × IsTrue (is_utf8 g.body)
+    → Splits p (fields_payload f) [] × AreTexts f
+joined p r1 r2 r3 r4 r5 r6 r7 g f is none s0 s1 s2 s3 s4 s5 s6 =
+    let t5 = splits_then r5 (text_field g.tenant) r6 (text_field g.body) r7 s5.0 s6.0 in
+    let t4 = splits_then r4 (text_field g.campaign) r5 _ r7 s4.0 t5 in
+    let t3 = splits_then r3 (text_field g.recipient) r4 _ r7 s3.0 t4 in
+    let t2 = splits_then r2 (text_field g.sender) r3 _ r7 s2.0 t3 in
+    let t1 = splits_then r1 (to_be_bytes w64 g.created) r2 _ r7 s1 t2 in
+    let t0 = splits_then p (to_be_bytes w128 g.id) r1 _ r7 s0 t1 in
+    let texts : AreTexts g = record { sender = s2.1; recipient = s3.1; campaign = s4.1; tenant = s5.1; body = s6.1 } in
+    subst (λ (h : HeldFields). Splits p (fields_payload h) [] × AreTexts h) is
+    (subst (λ (r : List ℕ). Splits p (fields_payload g) r) none t0, texts)
+
 fields_parts : (p : List ℕ) (f : HeldFields) → fields_in p ≡ Some f → Splits p (fields_payload f) [] × AreTexts f
 unfolding fields_in
 fields_parts p f e =
@@ -44,26 +62,12 @@ fields_parts p f e =
     let campaign = bind_some (text_at recipient.0.1) _ f recipient.2 in
     let tenant = bind_some (text_at campaign.0.1) _ f campaign.2 in
     let body = bind_some (text_at tenant.0.1) _ f tenant.2 in
-    let made : HeldFields = record { id = id.0.0; created = created.0.0; sender = sender.0.0; recipient = recipient.0.0; campaign = campaign.0.0; tenant = tenant.0.0; body = body.0.0 } in
-    let only = alone_is made f body.0.1 body.2 in
-    let s0 = number_splits w128 (2 ^ 128) exact_128 p id.0 id.1 in
-    let s1 = number_splits w64 (2 ^ 64) exact_64 id.0.1 created.0 created.1 in
-    let s2 = text_splits created.0.1 sender.0 sender.1 in
-    let s3 = text_splits sender.0.1 recipient.0 recipient.1 in
-    let s4 = text_splits recipient.0.1 campaign.0 campaign.1 in
-    let s5 = text_splits campaign.0.1 tenant.0 tenant.1 in
-    let s6 = text_splits tenant.0.1 body.0 body.1 in
-    let t5 = splits_then _ _ _ _ _ s5.0 s6.0 in
-    let t4 = splits_then _ _ _ _ _ s4.0 t5 in
-    let t3 = splits_then _ _ _ _ _ s3.0 t4 in
-    let t2 = splits_then _ _ _ _ _ s2.0 t3 in
-    let t1 = splits_then _ _ _ _ _ s1 t2 in
-    let t0 : Splits p (fields_payload made) body.0.1 = splits_then _ _ _ _ _ s0 t1 in
-    let texts : AreTexts made = record { sender = s2.1; recipient = s3.1; campaign = s4.1; tenant = s5.1; body = s6.1 } in (
-      subst (λ (g : HeldFields). Splits p (fields_payload g) []) only.0
-          (subst (λ (r : List ℕ). Splits p (fields_payload made) r) only.1 t0),
-      subst AreTexts only.0 texts,
-    )
+    let only = alone_is _ f body.0.1 body.2 in
+    joined p id.0.1 created.0.1 sender.0.1 recipient.0.1 campaign.0.1 tenant.0.1 body.0.1 _ f only.0 only.1
+    (number_splits w128 (2 ^ 128) exact_128 p id.0 id.1) (number_splits w64 (2 ^ 64) exact_64 id.0.1 created.0 created.1)
+    (text_splits created.0.1 sender.0 sender.1) (text_splits sender.0.1 recipient.0 recipient.1)
+    (text_splits recipient.0.1 campaign.0 campaign.1) (text_splits campaign.0.1 tenant.0 tenant.1)
+    (text_splits tenant.0.1 body.0 body.1)
 
 or_any : (xs : List ℕ) → unwrap_or (if_any xs) [] ≡ xs
 or_any [] = refl
