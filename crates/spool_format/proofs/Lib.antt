@@ -4,3 +4,4 @@ pub mod SmallLemmas
 pub mod LengthLemmas
 pub mod HeldLemmas
 pub mod PartLemmas
+pub mod ReadLemmas
