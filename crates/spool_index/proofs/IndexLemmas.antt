@@ -48,6 +48,10 @@ known_again : (t : Bool) (k : ℕ) (o : Option ℕ) (b : Bool) → is_some o ≡
 known_again true k o b e there = sym (there refl)
 known_again false k o b e there = e
 
+none_from : (o : Option Place) → is_some o ≡ false → o ≡ None
+none_from None e = refl
+none_from (Some p) e = absurd cc
+
 none_blank : (slots : List (Option Place)) (j k : ℕ) (q : Place) → j ≡ k → k < length slots → get_or (set slots k None) j None ≡ Some q → ⊥
 none_blank slots j k q same within at =
     let blank = get_or-set_same slots k None None within in
@@ -219,3 +223,8 @@ module _ {S : Type 0} where
   knows_more m n slots i p knows here updates q =
       ap is_some (updates q)
       ∙ known_again (nat_eq p.id q) i (get nat_eq m q) _ (knows q) (λ e. ap (λ j. has j (kept slots)) (sym (eqb-true p.id q e)) ∙ has_at slots i p here)
+
+  -- where the index knows no number of an id, no message has it
+  pub not_held : (m : IndexMap ℕ ℕ S) (slots : List (Option Place)) (id : ℕ) → IsIndex m slots → get nat_eq m id ≡ None → find id (kept slots) ≡ None
+  not_held m slots id is none =
+      none_from (find id (kept slots)) (has-find id (kept slots) ∙ sym (is.knows id) ∙ ap is_some none)
