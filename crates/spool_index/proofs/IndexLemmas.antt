@@ -1,15 +1,14 @@
 -- An index that is right stays right by each change.
-use Rattle.std.proofs.Common.{◌≡◌, ◌≤◌, ◌<◌, ◌+◌, ℕ, zero, suc, List, [], ◌∷◌, ◌++◌, Bool, true, false, ◌||◌, cond, eqb, nat_eq, Option, Some, None, length, length-append, get_or, set, is_some, refl, sym, ap, ◌∙◌, ⊎_elim, arith, inl, inr, not, ◌&&◌, sum_by, get_or-set_same, get_or-set_other, length-set, subst}
-use Rattle.std.proofs.lemmas.Bool.{eqb-true, eq-eqb, ne_eqb, cases_eq, cond-true, cond-false, false≢true, true≢false, not-true, and_parts}
+use Rattle.std.proofs.Common.{◌≡◌, ◌<◌, ◌+◌, ℕ, zero, suc, List, [], ◌∷◌, ◌++◌, Bool, true, false, ◌||◌, cond, nat_eq, Option, Some, None, length, length-append, get_or, set, is_some, refl, sym, ap, ◌∙◌, arith, inl, inr, not, sum_by, get_or-set_same, get_or-set_other}
+use Rattle.std.proofs.lemmas.Bool.{eqb-true, eq-eqb, ne_eqb, cases_eq, cond-true, cond-false, true≢false, not-true, and_parts}
 use Rattle.std.proofs.Math.Seq.{get_or-append_seam}
 use Rattle.std.proofs.Math.ListN.{get_or-append}
-use Rattle.std.proofs.lemmas.List.{get_or-append-add}
 use Rattle.indexmap.specs.IndexMap.{IndexMap, get, index_map_len}
 use Rattle.spool_index.specs.declared.place.Place.{Place}
 use Rattle.spool_index.specs.Places.{has, find, without, with_delay, delayed, are_distinct}
-use Rattle.spool_index.specs.inside.Slots.{kept, Knows, Numbers, IsIndex}
+use Rattle.spool_index.specs.Slots.{kept, Knows, Numbers, IsIndex}
 use Rattle.spool_index.proofs.PlaceLemmas.{has-append, has-find, find_between, without_between, delay_between, has_without, has_instead, distinct_instead, distinct_parts, distinct_push, sum_between}
-use Rattle.spool_index.proofs.KeptLemmas.{kept-append, before, behind, kept_at, kept_blank, kept_set, within_at, has_at, Stands, stands}
+use Rattle.spool_index.proofs.KeptLemmas.{kept-append, before, behind, kept_at, kept_blank, kept_set, within_at, has_at, stands}
 
 -- the slot of this number holds the id
 abbrev pub Holds : ℕ → ℕ → List (Option Place) → Type 0
@@ -172,7 +171,7 @@ module _ {S : Type 0} where
               updates q.id ∙ cond-false (nat_eq p.id q.id) (Some (length slots)) (get nat_eq m q.id) ids ∙ is.numbers k q lower at_k
         ];
         count =
-          omega (arith, len, is.count, ap length (kept-append slots (Some p ∷ [])), length-append (kept slots) (p ∷ []));
+            omega (arith, len, is.count, ap length (kept-append slots (Some p ∷ [])), length-append (kept slots) (p ∷ []));
         distinct = ap are_distinct (kept-append slots (Some p ∷ [])) ∙ distinct_push (kept slots) p is.distinct none;
       }
 

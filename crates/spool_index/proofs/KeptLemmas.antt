@@ -1,9 +1,9 @@
 -- Slots cut at one that is not blank.
-use Rattle.std.proofs.Common.{◌≡◌, ◌≤◌, ◌<◌, ◌+◌, ℕ, zero, suc, List, [], ◌∷◌, ◌++◌, Bool, true, false, ◌||◌, cond, eqb, Option, Some, None, length, get_or, set, take, drop, filter, is_some, refl, sym, ap, ◌∙◌, inl, inr, ⊎_elim, arith}
+use Rattle.std.proofs.Common.{◌≡◌, ◌<◌, ℕ, zero, suc, List, [], ◌∷◌, ◌++◌, true, eqb, Option, Some, None, length, get_or, set, take, drop, filter, is_some, refl, ap, ⊎_elim, arith}
 use Rattle.std.proofs.lemmas.Bool.{or_cases, eqb-true, or_left, or_right, eq-eqb}
 use Rattle.spool_index.specs.declared.place.Place.{Place}
 use Rattle.spool_index.specs.Places.{has}
-use Rattle.spool_index.specs.inside.Slots.{kept}
+use Rattle.spool_index.specs.Slots.{kept}
 
 pub kept-append : (xs ys : List (Option Place)) → kept (xs ++ ys) ≡ kept xs ++ kept ys
 kept-append [] ys = refl

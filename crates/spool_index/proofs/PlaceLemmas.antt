@@ -1,6 +1,6 @@
 -- A list of places cut at a message, and what a look at it, its settling and its delay come to there.
-use Rattle.std.proofs.Common.{◌≡◌, ◌≤◌, ◌+◌, ℕ, List, [], ◌∷◌, ◌++◌, Bool, true, false, not, ◌&&◌, ◌||◌, cond, eqb, Option, Some, None, length, refl, sym, ap, ◌∙◌, arith, is_some, sum_by}
-use Rattle.std.proofs.lemmas.Bool.{and_parts, and_from, or_parts, or_from, not-true, not_from_false, eqb-true, eqb-false, ne_eqb, eq-eqb, cases_Bool}
+use Rattle.std.proofs.Common.{◌≡◌, ◌≤◌, ◌+◌, ℕ, List, [], ◌∷◌, ◌++◌, Bool, true, false, not, ◌&&◌, ◌||◌, cond, eqb, Option, Some, refl, sym, ap, ◌∙◌, arith, is_some, sum_by}
+use Rattle.std.proofs.lemmas.Bool.{and_parts, and_from, or_parts, or_from, not-true, not_from_false, eqb-true, eq-eqb}
 use Rattle.std.proofs.lemmas.Bool.Decides.{nat_tests}
 use Rattle.std.proofs.lemmas.List.Folds.{list_any-append}
 use Rattle.std.proofs.lemmas.List.Sums.{sum_by-append, sum_by-cons, sum_by-le-sum_by}
@@ -76,10 +76,11 @@ distinct_parts (x ∷ xs) p ys distinct =
     let none = not-true (has x.id (xs ++ p ∷ ys)) parts.0 in
     let sides = or_parts (has x.id xs) (eqb p.id x.id || has x.id ys) (sym (has-append x.id xs (p ∷ ys)) ∙ none) in
     let behind = or_parts (eqb p.id x.id) (has x.id ys) sides.1 in
-    let left : has x.id (xs ++ ys) ≡ false = has-append x.id xs ys ∙ or_from (has x.id xs) (has x.id ys) sides.0 behind.1 in
-    (or_from (eqb x.id p.id) (has p.id xs) (turned p.id x.id behind.0) rest.0,
-    rest.1,
-    and_from (not (has x.id (xs ++ ys))) (are_distinct (xs ++ ys)) (not_from_false (has x.id (xs ++ ys)) left) rest.2)
+    let left : has x.id (xs ++ ys) ≡ false = has-append x.id xs ys ∙ or_from (has x.id xs) (has x.id ys) sides.0 behind.1 in (
+      or_from (eqb x.id p.id) (has p.id xs) (turned p.id x.id behind.0) rest.0,
+      rest.1,
+      and_from (not (has x.id (xs ++ ys))) (are_distinct (xs ++ ys)) (not_from_false (has x.id (xs ++ ys)) left) rest.2,
+    )
 
 pub distinct_push : (xs : List Place) (p : Place) → are_distinct xs ≡ true → has p.id xs ≡ false → are_distinct (xs ++ p ∷ []) ≡ true
 distinct_push [] p distinct none = refl

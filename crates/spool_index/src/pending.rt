@@ -23,7 +23,7 @@ pub struct Pending {
 impl Model for Pending {
     ghost use Rattle.std.specs.Prelude.{List};
     ghost use Rattle.spool_index.specs.declared.place.Place.{Place};
-    ghost use Rattle.spool_index.specs.inside.Slots.{kept, IsKept};
+    ghost use Rattle.spool_index.specs.Slots.{kept, IsKept};
 
     ghost Value = { List Place };
 
@@ -93,7 +93,8 @@ impl Pending {
                 ..place
             };
             self.slots[slot] = Some(later);
-            self.compacted_size = self.compacted_size - compacted_cost(place) + compacted_cost(later);
+            self.compacted_size = self.compacted_size - compacted_cost(place)
+                + compacted_cost(later);
         }
     }
 
@@ -141,5 +142,9 @@ fn compacted_cost(place: Place) -> u64
     ensures { result ≡ spec.compacted_cost place }
 {
     let record = u64::from(place.size) + 6;
-    if place.failures == 0 { record } else { record + 34 }
+    if place.failures == 0 {
+        record
+    } else {
+        record + 34
+    }
 }

@@ -5,13 +5,17 @@
 ghost use Rattle.std.specs.Prelude.{◌≡◌, None, Some, IfSome, length, slice_index_or, true, option_map};
 ghost use Rattle.indexmap.specs.IndexMap.{index_map_len};
 ghost use Rattle.spool_index.specs.Places.{are_distinct, find, without};
-ghost use Rattle.spool_index.specs.inside.Slots.{kept, Knows, IsIndex};
+ghost use Rattle.spool_index.specs.Slots.{kept, Knows, IsIndex};
 
 use crate::place::Place;
 use indexmap::IndexMap;
 
 /// The message of an id, and the number of its slot.
-pub(crate) fn held(slots: &[Option<Place>], index: &IndexMap<u128, usize>, id: u128) -> Option<(usize, Place)>
+pub(crate) fn held(
+    slots: &[Option<Place>],
+    index: &IndexMap<u128, usize>,
+    id: u128,
+) -> Option<(usize, Place)>
     requires { IsIndex index.now slots.now }
     ensures found { option_map (λ held. held.1) result ≡ find id (kept slots.now) }
     ensures slot { IfSome result (λ held. slice_index_or slots.now held.0 None ≡ Some held.1 × (held.1.id ≡ id)) }
@@ -22,7 +26,12 @@ pub(crate) fn held(slots: &[Option<Place>], index: &IndexMap<u128, usize>, id: u
 }
 
 /// Leaves the slot of a message blank.
-pub(crate) fn vacate(slots: &mut Vec<Option<Place>>, index: &mut IndexMap<u128, usize>, slot: usize, place: Place)
+pub(crate) fn vacate(
+    slots: &mut Vec<Option<Place>>,
+    index: &mut IndexMap<u128, usize>,
+    slot: usize,
+    place: Place,
+)
     requires right { IsIndex index.old slots.old.items }
     requires held { slice_index_or slots.old.items slot None ≡ Some place }
     ensures right { IsIndex index.new slots.new.items }

@@ -13,7 +13,7 @@ pub struct Walk<'a> {
 impl<'a> Model for Walk<'a> {
     ghost use Rattle.std.specs.Prelude.{List};
     ghost use Rattle.spool_index.specs.declared.place.Place.{Place};
-    ghost use Rattle.spool_index.specs.inside.Slots.{kept};
+    ghost use Rattle.spool_index.specs.Slots.{kept};
 
     ghost Value = { List Place };
 

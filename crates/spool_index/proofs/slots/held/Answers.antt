@@ -1,6 +1,4 @@
-use Rattle.std.proofs.Common.{◌≡◌, Some, None, nat_eq, get_or, option_map, sym, ap, ◌∙◌, arith}
-use Rattle.indexmap.specs.IndexMap.{get}
-use Rattle.spool_index.specs.inside.Slots.{kept}
+use Rattle.std.proofs.Common.{◌≡◌, option_map, sym, ap, ◌∙◌, arith}
 use Rattle.spool_index.proofs.KeptLemmas.{within_at}
 use Rattle.spool_index.proofs.IndexLemmas.{holds, not_held, find_held}
 use Rattle.spool_index.proofs.slots.held.Goals as goal

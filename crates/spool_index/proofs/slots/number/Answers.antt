@@ -1,6 +1,5 @@
-use Rattle.std.proofs.Common.{◌≡◌, ◌+◌, ℕ, Bool, true, cond, Option, Some, None, is_some, nat_eq, Result, Ok, Err, OnOk, OnErr, IfOk, sym, ap, ◌∙◌, add-zero}
+use Rattle.std.proofs.Common.{◌≡◌, ◌+◌, ℕ, true, cond, Option, None, is_some, nat_eq, Result, Ok, Err, OnOk, OnErr, IfOk, sym, ap, ◌∙◌, add-zero}
 use Rattle.indexmap.specs.IndexMap.{get, index_map_len}
-use Rattle.spool_index.specs.inside.Slots.{kept}
 use Rattle.spool_index.proofs.KeptLemmas.{has_at}
 use Rattle.spool_index.proofs.IndexLemmas.{knows_more, numbers_more, numbers_blank}
 use Rattle.spool_index.proofs.slots.number.Goals as goal
@@ -27,13 +26,15 @@ loop-number-preserved c = elim c.match-slot.branch [
       let e = w.insert-noted.ensures in
       let there : is_some (get nat_eq m p.id) ≡ true = c.loop-number.invariant.0 p.id ∙ has_at slots i p w.in-Some.is in
       let updates = ok_since w.insert-noted.result (get nat_eq m p.id) e.absent there e.updates in
-      rw w.index-is
-      (knows_more m w.insert-noted.new.self slots i p c.loop-number.invariant.0 w.in-Some.is updates.0,
-      numbers_more m w.insert-noted.new.self slots i p c.requires.distinct c.loop-number.invariant.1 w.in-Some.is updates.0,
-      len_since w.insert-noted.result (get nat_eq m p.id) (index_map_len m) (index_map_len w.insert-noted.new.self) e.absent there e.old e.len ∙ c.loop-number.invariant.2)
+      rw w.index-is (
+        knows_more m w.insert-noted.new.self slots i p c.loop-number.invariant.0 w.in-Some.is updates.0,
+        numbers_more m w.insert-noted.new.self slots i p c.requires.distinct c.loop-number.invariant.1 w.in-Some.is updates.0,
+        len_since w.insert-noted.result (get nat_eq m p.id) (index_map_len m) (index_map_len w.insert-noted.new.self) e.absent there e.old e.len ∙ c.loop-number.invariant.2,
+      )
   | in_default w ↦
-      rw w.index-is
-      (c.loop-number.invariant.0,
-      numbers_blank c.loop-number.index c.args.slots.now c.loop-number.number c.loop-number.invariant.1 w.in_default.is,
-      c.loop-number.invariant.2)
+      rw w.index-is (
+        c.loop-number.invariant.0,
+        numbers_blank c.loop-number.index c.args.slots.now c.loop-number.number c.loop-number.invariant.1 w.in_default.is,
+        c.loop-number.invariant.2,
+      )
 ]

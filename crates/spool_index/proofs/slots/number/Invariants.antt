@@ -1,6 +1,6 @@
 use Rattle.std.proofs.Common.{◌≡◌, length}
 use Rattle.indexmap.specs.IndexMap.{index_map_len}
-use Rattle.spool_index.specs.inside.Slots.{kept, Knows, Numbers}
+use Rattle.spool_index.specs.Slots.{kept, Knows, Numbers}
 use Rattle.spool_index.proofs.slots.number.Given as goal
 
 abbrev pub invariant-loop-number : goal.invariant-loop-number

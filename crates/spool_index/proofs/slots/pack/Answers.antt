@@ -1,7 +1,7 @@
-use Rattle.std.proofs.Common.{◌≡◌, filter, is_some, length, refl, sym, ap, ◌∙◌, rules}
+use Rattle.std.proofs.Common.{is_some, length, sym, ap, ◌∙◌, rules}
 use Rattle.std.proofs.lemmas.Fn.{filter_same}
 use Rattle.spool_index.specs.Places.{has, are_distinct}
-use Rattle.spool_index.specs.inside.Slots.{kept}
+use Rattle.spool_index.specs.Slots.{kept}
 use Rattle.spool_index.proofs.KeptLemmas.{kept-filter}
 use Rattle.spool_index.proofs.slots.pack.Goals as goal
 

@@ -1,4 +1,4 @@
-use Rattle.std.proofs.Common.{refl, Some, None, Option, ◌≡◌, ◌+◌, nat_eq, is_some, cond, sym, ap, ◌∙◌, true, ℕ}
+use Rattle.std.proofs.Common.{refl, Some, Option, ◌≡◌, ◌+◌, nat_eq, is_some, cond, sym, ap, ◌∙◌, ℕ}
 use Rattle.indexmap.specs.IndexMap.{get, index_map_len}
 use Rattle.spool_index.proofs.KeptLemmas.{within_at}
 use Rattle.spool_index.proofs.IndexLemmas.{settled, settle_held}

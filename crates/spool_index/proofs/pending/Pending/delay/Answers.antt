@@ -1,7 +1,7 @@
-use Rattle.std.proofs.Common.{◌≡◌, ◌+◌, Some, None, get_or, set, is_some, sum_by, true, refl, sym, ap, ◌∙◌, arith}
+use Rattle.std.proofs.Common.{◌≡◌, Some, None, get_or, set, is_some, refl, sym, ap, ◌∙◌, arith}
 use Rattle.std.proofs.lemmas.Bool.{true≢false}
 use Rattle.spool_index.specs.Places.{has, find, with_delay, delayed, live_size, compacted_size, live_cost, compacted_cost}
-use Rattle.spool_index.specs.inside.Slots.{kept}
+use Rattle.spool_index.specs.Slots.{kept}
 use Rattle.spool_index.proofs.PlaceLemmas.{has-find, sum_without, sum_delay, compacted_within}
 use Rattle.spool_index.proofs.IndexLemmas.{rewritten, delay_held}
 use Rattle.spool_index.proofs.pending.Pending.delay.Goals as goal
@@ -41,7 +41,7 @@ invariant_of-self c =
       right = rewritten c.self.inside.index slots c.in-Some.slot p (delayed a.failures a.due p) c.self.invariant.right here refl;
       live = omega (arith, live, c.self.invariant.live, ap live_size later);
       compacted =
-        omega (arith, first, compacted, c.self.invariant.compacted, c.compacted_cost.ensures, c.compacted_cost-in-Some.ensures, ap compacted_size later);
+          omega (arith, first, compacted, c.self.invariant.compacted, c.compacted_cost.ensures, c.compacted_cost-in-Some.ensures, ap compacted_size later);
     }
 
 pub returns-in-Some : goal.returns-in-Some

@@ -1,8 +1,8 @@
-use Rattle.std.proofs.Common.{◌≡◌, ◌≤◌, ◌<◌, ◌∷◌, ◌++◌, [], ◌+◌, ◌^◌, ℕ, Bool, false, Option, Some, None, SomeIff, cond, is_some, nat_eq, length, sum_by, sym, ap, ◌∙◌, subst, arith, add-zero}
+use Rattle.std.proofs.Common.{◌≡◌, ◌<◌, ◌∷◌, ◌++◌, [], ◌+◌, ◌^◌, ℕ, false, Option, Some, None, SomeIff, cond, is_some, nat_eq, length, sym, ap, ◌∙◌, subst, arith}
 use Rattle.std.proofs.lemmas.List.Sums.{sum_by_push}
 use Rattle.indexmap.specs.IndexMap.{get, index_map_len}
 use Rattle.spool_index.specs.Places.{has, live_size, compacted_size, live_cost, compacted_cost}
-use Rattle.spool_index.specs.inside.Slots.{kept, IsIndex}
+use Rattle.spool_index.specs.Slots.{kept, IsIndex}
 use Rattle.spool_index.proofs.PlaceLemmas.{compacted_within}
 use Rattle.spool_index.proofs.KeptLemmas.{kept-append}
 use Rattle.spool_index.proofs.IndexLemmas.{pushed}
@@ -46,7 +46,7 @@ invariant_of-self-2 c =
       right = subst (λ s. IsIndex n s) (sym items) right;
       live = omega (arith, sum.1, sum_by_push live_cost (kept slots) p, c.self.invariant.live, c.live_cost.ensures, ap live_size all);
       compacted =
-        omega (arith, sum_by_push compacted_cost (kept slots) p, c.self.invariant.compacted, c.compacted_cost.ensures, ap compacted_size all);
+          omega (arith, sum_by_push compacted_cost (kept slots) p, c.self.invariant.compacted, c.compacted_cost.ensures, ap compacted_size all);
     }
 
 pub returns-clause-ok : goal.returns-clause-ok

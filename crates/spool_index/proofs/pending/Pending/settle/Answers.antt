@@ -1,7 +1,7 @@
-use Rattle.std.proofs.Common.{◌≡◌, ◌+◌, Some, None, get_or, is_some, sum_by, true, sym, ap, ◌∙◌, arith}
+use Rattle.std.proofs.Common.{◌≡◌, is_some, sym, ap, ◌∙◌, arith}
 use Rattle.std.proofs.lemmas.Bool.{true≢false}
 use Rattle.spool_index.specs.Places.{has, find, without, live_size, compacted_size, live_cost, compacted_cost}
-use Rattle.spool_index.specs.inside.Slots.{kept}
+use Rattle.spool_index.specs.Slots.{kept}
 use Rattle.spool_index.proofs.PlaceLemmas.{has-find, sum_without}
 use Rattle.spool_index.proofs.pending.Pending.settle.Goals as goal
 
@@ -28,7 +28,7 @@ invariant_of-self c =
       right = c.vacate.ensures.right;
       live = omega (arith, sum_without live_cost c.args.id (kept slots) p found, c.self.invariant.live, c.live_cost.ensures, ap live_size left);
       compacted =
-        omega (arith, sum_without compacted_cost c.args.id (kept slots) p found, c.self.invariant.compacted, c.compacted_cost.ensures, ap compacted_size left);
+          omega (arith, sum_without compacted_cost c.args.id (kept slots) p found, c.self.invariant.compacted, c.compacted_cost.ensures, ap compacted_size left);
     }
 
 pub returns-in_default : goal.returns-in_default

@@ -1,5 +1,5 @@
 use Rattle.std.proofs.Common.{◌≡◌, length}
-use Rattle.spool_index.specs.inside.Slots.{kept}
+use Rattle.spool_index.specs.Slots.{kept}
 use Rattle.spool_index.proofs.walk.Walk.next.Given as goal
 
 abbrev pub invariant-loop-slot : goal.invariant-loop-slot
