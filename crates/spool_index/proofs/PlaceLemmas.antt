@@ -19,6 +19,9 @@ pub has-find : (id : ℕ) (xs : List Place) → is_some (find id xs) ≡ has id 
 has-find id [] = refl
 has-find id (x ∷ xs) = some_first (eqb x.id id) x (find id xs) (has id xs) (has-find id xs)
 
+pub known_by_find : (id : ℕ) (xs : List Place) (o : Option Place) → o ≡ find id xs → is_some o ≡ has id xs
+known_by_find id xs o is = ap is_some is ∙ has-find id xs
+
 pub find_between : (id : ℕ) (xs : List Place) (p : Place) (ys : List Place) → has id xs ≡ false → p.id ≡ id → find id (xs ++ p ∷ ys) ≡ Some p
 find_between id [] p ys none is = rw (eq-eqb p.id id is) refl
 find_between id (x ∷ xs) p ys none is =

@@ -1,5 +1,5 @@
 //! The pending messages of a spool.
-ghost use Rattle.std.specs.Prelude.{◌≡◌, ◌∷◌, ◌++◌, [], true, false, length, OnOk, OnErr};
+ghost use Rattle.std.specs.Prelude.{◌≡◌, ◌∷◌, ◌++◌, [], true, false, length, is_some, IfSome, OnOk, OnErr};
 ghost use Rattle.spool_index.specs.Places as spec;
 ghost use Rattle.spool_index.specs.Places.{has, find, without, with_delay, are_distinct, live_size, compacted_size};
 
@@ -62,8 +62,11 @@ impl Pending {
     }
 
     /// The message of this id.
+    #[tactic(auto, using(crate::proofs::PlaceLemmas::known_by_find))]
     pub fn find(&self, id: u128) -> Option<Place>
-        ensures { result ≡ find id self.now }
+        ensures found { result ≡ find id self.now }
+        ensures known { is_some result ≡ has id self.now }
+        ensures id { IfSome result (λ place. place.id ≡ id) }
     {
         let (_, place) = held(&self.slots, &self.index, id)?;
         Some(place)
