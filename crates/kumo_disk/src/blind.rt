@@ -17,20 +17,25 @@ impl Disk for Blind {
         let _ = area;
         Err(Failed)
     }
+
     fn read(&mut self, area: u8, at: u64, buffer: &mut [u8]) -> Result<usize, Failed> {
         self.faults = self.faults.saturating_add(1);
         Err(Failed)
     }
+
     fn read_exact(&mut self, area: u8, at: u64, buffer: &mut [u8]) -> Result<(), Failed> {
         Ok(())
     }
+
     fn write_at(&mut self, area: u8, at: u64, bytes: &[u8]) -> Result<(), Failed> {
         self.faults = self.faults.saturating_add(1);
         Err(Failed)
     }
+
     fn cut(&mut self, area: u8, end: u64) -> Result<(), Failed> {
         Ok(())
     }
+
     fn sync(&mut self, area: u8) -> Result<(), Failed> {
         Ok(())
     }

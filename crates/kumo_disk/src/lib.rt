@@ -3,6 +3,11 @@
 
 mod blind;
 mod disk;
+mod kept_call;
+mod mem_disk;
+mod schedule;
 
 pub use blind::Blind;
 pub use disk::Disk;
+pub use mem_disk::MemDisk;
+pub use schedule::DiskCall;
