@@ -87,6 +87,7 @@ moved_by area step next old new here is made = subst (λ (i : Image). Moved area
 
 pub torn_same : (at n end : ℕ) (d : List ℕ) → Torn at n end d d
 torn_same at n end d = record { before = take_min at d; after = λ within. refl; no_shorter = omega arith; no_longer = omega arith }
+
 pub torn_made : (at : ℕ) (bytes old : List ℕ) → at ≤ length old → Torn at (length bytes) (length old) old (with_bytes at bytes old)
 torn_made at bytes old within = record {
   before = ap (λ (k : ℕ). take k (with_bytes at bytes old)) (let least : min at (length old) ≡ at = omega (arith, within) in least)

@@ -26,12 +26,16 @@ before_call call now = take call.at now ++ call.replaced.items ++ drop (call.at 
 abbrev pub undone : KeptCall → Image → Image
 undone call now = with_area call.area (before_call call (area_of call.area now)) now
 
+-- as it was, where it was as it read
+abbrev pub SameAs : List ℕ → List ℕ → List ℕ → Type 0
+SameAs read old new = (new ≡ old) × (new ≡ read)
+
 -- What a call may have done to an area that a crash finds, at this offset, where a read gave these bytes. A sync that was
 -- made left what was read.
 abbrev pub Does : Effect → ℕ → List ℕ → List ℕ → List ℕ → Type 0
 Does (Write count) at read old new = Torn at count (length read) old new
 Does Shorten at read old new = Cut at old new
-Does Sync at read old new = (new ≡ old) × (new ≡ read)
+Does Sync at read old new = SameAs read old new
 
 -- What a crash may leave, by what is read now and the calls that were made, the last one first: what is read, or what the last
 -- call made of something that a crash might have left before it.
@@ -88,3 +92,19 @@ pub record Holds (first second : List ℕ) (seen : DiskSeen) : Type 0 where
   pub told : seen.told ≡ Some (record { first = first; second = second })
   pub only : (s : ℕ) (image : Image) → seen.left s image → image ≡ record { first = first; second = second }
   pub faults : seen.faults ≡ 0
+
+-- how often the disk was refused memory for what it keeps
+abbrev pub refusals : MemDisk → ℕ
+refusals disk = disk.refused
+
+-- Whatever the step may make of something that a crash might have left before, a crash may leave now.
+abbrev pub LeavesEach : ℕ → (List ℕ → List ℕ → Type 0) → DiskSeen → DiskSeen → Type 0
+LeavesEach area step old new =
+    (from image : Image) → old.left old.moment from → Moved area step from image → new.left new.moment image
+
+-- both show the same
+pub record ShowsSame (old new : DiskSeen) : Type 0 where
+  pub told : new.told ≡ old.told
+  pub moment : new.moment ≡ old.moment
+  pub left : (s : ℕ) (image : Image) → (old.left s image → new.left s image) × (new.left s image → old.left s image)
+  pub faults : new.faults ≡ old.faults

@@ -2,11 +2,11 @@
 //!
 //! It keeps every call with the bytes that the call replaced or cut off, so a call costs what it writes or cuts off, and what was
 //! read before a call is found by going back from what is read now. Chosen calls can be made to fail.
-ghost use Rattle.std.specs.Prelude.{◌≡◌, ◌⊎◌, ◌≤◌, ◌<◌, ◌∷◌, ◌++◌, [], length, take, OnOk, OnErr};
-ghost use Rattle.kumo_base.specs.Causes.{Rose};
-ghost use Rattle.kumo_disk.specs.Disk.{area_of, with_bytes};
-ghost use Rattle.kumo_disk.specs.Memory.{mem_seen, reads, with_area, Holds};
-ghost use Rattle.kumo_disk.specs.inside.Keeping.{Keeps};
+ghost use Rattle.std.specs.Prelude.{◌≡◌, ◌⊎◌, ◌≤◌, ◌<◌, ◌∷◌, ◌++◌, ◌+◌, ◌^◌, [], length, take, drop, IfOk, IfSome, OnOk, OnErr, IsErr};
+ghost use Rattle.kumo_base.specs.Causes.{Rose, HasCause};
+ghost use Rattle.kumo_disk.specs.Disk.{area_of, with_bytes, Lasts, Each, ReadMoves, IsDurable, Same, Written, Torn, Shortened, Cut, Places};
+ghost use Rattle.kumo_disk.specs.Memory.{mem_seen, reads, with_area, Holds, refusals, LeavesEach, SameAs, ShowsSame};
+ghost use Rattle.kumo_disk.specs.inside.Keeping.{Keeps, IsRefused};
 
 use crate::disk::Disk;
 use crate::kept_call::{Effect, KeptCall, overwrite, piece_of, place};
@@ -23,6 +23,7 @@ pub struct MemDisk {
     calls: Vec<KeptCall>,
     schedule: Schedule,
     faults: u64,
+    refused: u64,
 }
 
 impl MemDisk {
@@ -44,6 +45,7 @@ impl MemDisk {
             calls: Vec::new(alloc),
             schedule: Schedule::new(alloc),
             faults: 0,
+            refused: 0,
         }
     }
 
@@ -59,6 +61,27 @@ impl MemDisk {
         }
     }
 
+    /// Makes the k-th call of a kind fail, counted from 1 over the disk's life. At `Memory` nothing is made to fail.
+    pub fn fail_at(&mut self, kind: DiskCall, k: u64) -> Result<(), Memory>
+        ensures { ShowsSame (mem_seen self.old) (mem_seen self.new) }
+    {
+        self.schedule.fail_at(kind, k)
+    }
+
+    /// Makes the k-th call from now, counted from 1, and every later one fail. The sooner of two fuses counts.
+    pub fn fuse(&mut self, k: u64)
+        ensures { ShowsSame (mem_seen self.old) (mem_seen self.new) }
+    {
+        self.schedule.fuse(k);
+    }
+
+    /// Makes no call fail any more.
+    pub fn mend(&mut self)
+        ensures { ShowsSame (mem_seen self.old) (mem_seen self.new) }
+    {
+        self.schedule.mend();
+    }
+
     /// Keeps a call, and puts these bytes at its offset. At `Memory` all is as it was.
     fn change(&mut self, call: KeptCall, bytes: &[u8]) -> Result<(), Memory>
         requires area { call.area < 2 }
@@ -67,7 +90,7 @@ impl MemDisk {
         ensures ok { OnOk result (reads self.new
             ≡ with_area call.area (with_bytes call.at bytes.now (area_of call.area (reads self.old))) (reads self.old)) }
         ensures err { OnErr result ((reads self.new ≡ reads self.old) × (self.new.calls.items ≡ self.old.calls.items)) }
-        ensures faults { self.new.faults ≡ self.old.faults }
+        ensures faults { (self.new.faults ≡ self.old.faults) × (self.new.refused ≡ self.old.refused) }
     {
         let area = call.area;
         let at = call.at;
@@ -91,7 +114,7 @@ impl MemDisk {
         ensures ok { OnOk result (reads self.new
             ≡ with_area area (with_bytes at bytes.now (area_of area (reads self.old))) (reads self.old)) }
         ensures err { OnErr result ((reads self.new ≡ reads self.old) × (self.new.calls.items ≡ self.old.calls.items)) }
-        ensures faults { self.new.faults ≡ self.old.faults }
+        ensures faults { (self.new.faults ≡ self.old.faults) × (self.new.refused ≡ self.old.refused) }
     {
         let placed = bytes.len();
         let replaced = piece_of(self.alloc, self.bytes(area), at, placed)?;
@@ -111,7 +134,7 @@ impl MemDisk {
         requires { area < 2 }
         ensures cut { reads self.new ≡ with_area area (take end (area_of area (reads self.old))) (reads self.old) }
         ensures calls { self.new.calls.items ≡ self.old.calls.items }
-        ensures faults { self.new.faults ≡ self.old.faults }
+        ensures faults { (self.new.faults ≡ self.old.faults) × (self.new.refused ≡ self.old.refused) }
     {
         if area == 0 {
             self.first.truncate(end);
@@ -127,7 +150,7 @@ impl MemDisk {
         ensures keeps { OnOk result (Keeps area Effect.Shorten end self.old self.new) }
         ensures ok { OnOk result (reads self.new ≡ with_area area (take end (area_of area (reads self.old))) (reads self.old)) }
         ensures err { OnErr result ((reads self.new ≡ reads self.old) × (self.new.calls.items ≡ self.old.calls.items)) }
-        ensures faults { self.new.faults ≡ self.old.faults }
+        ensures faults { (self.new.faults ≡ self.old.faults) × (self.new.refused ≡ self.old.refused) }
     {
         let long = self.bytes(area).len();
         let replaced = piece_of(self.alloc, self.bytes(area), end, long - end)?;
@@ -148,7 +171,7 @@ impl MemDisk {
         ensures keeps { OnOk result (Keeps area effect at self.old self.new) }
         ensures calls { OnErr result (self.new.calls.items ≡ self.old.calls.items) }
         ensures same { reads self.new ≡ reads self.old }
-        ensures faults { self.new.faults ≡ self.old.faults }
+        ensures faults { (self.new.faults ≡ self.old.faults) × (self.new.refused ≡ self.old.refused) }
     {
         let replaced = Vec::new(self.alloc);
         self.calls.push(KeptCall {
@@ -161,16 +184,15 @@ impl MemDisk {
         Ok(())
     }
 
-    /// Keeps a call that failed, where there is memory for it, and counts a fault.
-    fn fail_after(&mut self, area: u8, effect: Effect, at: usize)
-        ensures keeps { Keeps area effect at self.old self.new ⊎ (self.new.calls.items ≡ self.old.calls.items) }
+    /// Keeps a call that failed, where there is memory for it.
+    fn keep_failed(&mut self, area: u8, effect: Effect, at: usize)
+        ensures keeps { Keeps area effect at self.old self.new ⊎ IsRefused self.old self.new }
         ensures same { reads self.new ≡ reads self.old }
-        ensures later { self.old.faults ≤ self.new.faults }
-        ensures faults { Rose self.old.faults self.new.faults }
+        ensures faults { self.new.faults ≡ self.old.faults }
     {
         match self.keep(area, effect, at) {
-            Ok(()) => self.faults = self.faults.saturating_add(1),
-            Err(_) => self.faults = self.faults.saturating_add(1),
+            Ok(()) => {}
+            Err(_) => self.refused = self.refused.saturating_add(1),
         }
     }
 }
@@ -178,7 +200,16 @@ impl MemDisk {
 impl Disk for MemDisk {
     ghost seen = { λ disk. mem_seen disk };
 
-    fn length(&mut self, area: u8) -> Result<u64, Failed> {
+    fn length(&mut self, area: u8) -> Result<u64, Failed>
+        requires { area < 2 }
+        ensures bound { IfOk result (λ n. n < 2 ^ 63) }
+        ensures value { IfSome (mem_seen self.old).told (λ read. IfOk result (λ n. n ≡ length (area_of area read))) }
+        ensures same { (mem_seen self.new).told ≡ (mem_seen self.old).told }
+        ensures time { Lasts (mem_seen self.old) (mem_seen self.new) }
+        ensures images { IfSome (mem_seen self.old).told (λ _. Each area Same (mem_seen self.old) (mem_seen self.new)) }
+        ensures cause { HasCause (mem_seen self.old).faults (mem_seen self.new).faults result }
+        ensures each { LeavesEach area Same (mem_seen self.old) (mem_seen self.new) }
+    {
         if self.schedule.fails(DiskCall::Length) {
             self.faults = self.faults.saturating_add(1);
             return Err(Failed);
@@ -186,7 +217,17 @@ impl Disk for MemDisk {
         Ok(self.bytes(area).len() as u64)
     }
 
-    fn read(&mut self, area: u8, at: u64, buffer: &mut [u8]) -> Result<usize, Failed> {
+    fn read(&mut self, area: u8, at: u64, buffer: &mut [u8]) -> Result<usize, Failed>
+        requires area { area < 2 }
+        requires buffer { 0 < length buffer.old }
+        ensures bound { IfOk result (λ n. n ≤ length buffer.new) }
+        ensures bytes { IfSome (mem_seen self.old).told (λ read. IfOk result (λ n. Places (area_of area read) at n buffer.new)) }
+        ensures same { (mem_seen self.new).told ≡ (mem_seen self.old).told }
+        ensures time { Lasts (mem_seen self.old) (mem_seen self.new) }
+        ensures images { IfSome (mem_seen self.old).told (λ _. Each area Same (mem_seen self.old) (mem_seen self.new)) }
+        ensures cause { HasCause (mem_seen self.old).faults (mem_seen self.new).faults result }
+        ensures each { LeavesEach area Same (mem_seen self.old) (mem_seen self.new) }
+    {
         if self.schedule.fails(DiskCall::Read) {
             self.faults = self.faults.saturating_add(1);
             return Err(Failed);
@@ -194,7 +235,17 @@ impl Disk for MemDisk {
         Ok(place(self.bytes(area), at, buffer))
     }
 
-    fn read_exact(&mut self, area: u8, at: u64, buffer: &mut [u8]) -> Result<(), Failed> {
+    fn read_exact(&mut self, area: u8, at: u64, buffer: &mut [u8]) -> Result<(), Failed>
+        requires area { area < 2 }
+        requires buffer { 0 < length buffer.old }
+        requires within { IfSome (mem_seen self.old).told (λ read. at + length buffer.old ≤ length (area_of area read)) }
+        ensures bytes { OnOk result (IfSome (mem_seen self.old).told (λ read. buffer.new ≡ take (length buffer.new) (drop at (area_of area read)))) }
+        ensures same { (mem_seen self.new).told ≡ (mem_seen self.old).told }
+        ensures time { Lasts (mem_seen self.old) (mem_seen self.new) }
+        ensures images { IfSome (mem_seen self.old).told (λ _. Each area Same (mem_seen self.old) (mem_seen self.new)) }
+        ensures cause { HasCause (mem_seen self.old).faults (mem_seen self.new).faults result }
+        ensures each { LeavesEach area Same (mem_seen self.old) (mem_seen self.new) }
+    {
         if self.schedule.fails(DiskCall::Read) {
             self.faults = self.faults.saturating_add(1);
             return Err(Failed);
@@ -203,35 +254,73 @@ impl Disk for MemDisk {
         Ok(())
     }
 
-    fn write_at(&mut self, area: u8, at: u64, bytes: &[u8]) -> Result<(), Failed> {
+    fn write_at(&mut self, area: u8, at: u64, bytes: &[u8]) -> Result<(), Failed>
+        requires area { area < 2 }
+        requires some { 0 < length bytes.now }
+        requires at { IfSome (mem_seen self.old).told (λ read. at ≤ length (area_of area read)) }
+        ensures bound { OnOk result (at + length bytes.now < 2 ^ 63) }
+        ensures written { OnOk result (ReadMoves area (Written at bytes.now) (mem_seen self.old) (mem_seen self.new)) }
+        ensures part { ReadMoves area (λ old. Torn at (length bytes.now) (length old) old) (mem_seen self.old) (mem_seen self.new) }
+        ensures time { Lasts (mem_seen self.old) (mem_seen self.new) }
+        ensures images { IfSome (mem_seen self.old).told (λ read.
+            Each area (Torn at (length bytes.now) (length (area_of area read))) (mem_seen self.old) (mem_seen self.new)) }
+        ensures cause { HasCause (mem_seen self.old).faults (mem_seen self.new).faults result }
+        ensures each { LeavesEach area (Torn at (length bytes.now) (length (area_of area (reads self.old)))) (mem_seen self.old) (mem_seen self.new)
+            ⊎ IsErr result × Rose (refusals self.old) (refusals self.new) }
+        ensures failed { OnErr result (reads self.new ≡ reads self.old) }
+    {
         if self.schedule.fails(DiskCall::WriteAt) {
-            self.fail_after(area, Effect::Write(bytes.len()), at as usize);
+            self.keep_failed(area, Effect::Write(bytes.len()), at as usize);
+            self.faults = self.faults.saturating_add(1);
             return Err(Failed);
         }
         match self.write(area, at as usize, bytes) {
             Ok(()) => Ok(()),
             Err(_) => {
+                self.refused = self.refused.saturating_add(1);
                 self.faults = self.faults.saturating_add(1);
                 Err(Failed)
             }
         }
     }
 
-    fn cut(&mut self, area: u8, end: u64) -> Result<(), Failed> {
+    fn cut(&mut self, area: u8, end: u64) -> Result<(), Failed>
+        requires area { area < 2 }
+        requires end { IfSome (mem_seen self.old).told (λ read. end ≤ length (area_of area read)) }
+        ensures done { OnOk result (ReadMoves area (Shortened end) (mem_seen self.old) (mem_seen self.new)) }
+        ensures part { ReadMoves area (Cut end) (mem_seen self.old) (mem_seen self.new) }
+        ensures time { Lasts (mem_seen self.old) (mem_seen self.new) }
+        ensures images { IfSome (mem_seen self.old).told (λ _. Each area (Cut end) (mem_seen self.old) (mem_seen self.new)) }
+        ensures cause { HasCause (mem_seen self.old).faults (mem_seen self.new).faults result }
+        ensures each { LeavesEach area (Cut end) (mem_seen self.old) (mem_seen self.new)
+            ⊎ IsErr result × Rose (refusals self.old) (refusals self.new) }
+        ensures failed { OnErr result (reads self.new ≡ reads self.old) }
+    {
         if self.schedule.fails(DiskCall::Cut) {
-            self.fail_after(area, Effect::Shorten, end as usize);
+            self.keep_failed(area, Effect::Shorten, end as usize);
+            self.faults = self.faults.saturating_add(1);
             return Err(Failed);
         }
         match self.shorten(area, end as usize) {
             Ok(()) => Ok(()),
             Err(_) => {
+                self.refused = self.refused.saturating_add(1);
                 self.faults = self.faults.saturating_add(1);
                 Err(Failed)
             }
         }
     }
 
-    fn sync(&mut self, area: u8) -> Result<(), Failed> {
+    fn sync(&mut self, area: u8) -> Result<(), Failed>
+        requires { area < 2 }
+        ensures durable { OnOk result (IsDurable area (mem_seen self.new)) }
+        ensures same { (mem_seen self.new).told ≡ (mem_seen self.old).told }
+        ensures time { Lasts (mem_seen self.old) (mem_seen self.new) }
+        ensures images { IfSome (mem_seen self.old).told (λ _. Each area Same (mem_seen self.old) (mem_seen self.new)) }
+        ensures cause { HasCause (mem_seen self.old).faults (mem_seen self.new).faults result }
+        ensures each { OnOk result (LeavesEach area (SameAs (area_of area (reads self.old))) (mem_seen self.old) (mem_seen self.new)) }
+        ensures failed { OnErr result (LeavesEach area Same (mem_seen self.old) (mem_seen self.new)) }
+    {
         if self.schedule.fails(DiskCall::Sync) {
             self.faults = self.faults.saturating_add(1);
             return Err(Failed);
@@ -239,6 +328,7 @@ impl Disk for MemDisk {
         match self.keep(area, Effect::Sync, 0) {
             Ok(()) => Ok(()),
             Err(_) => {
+                self.refused = self.refused.saturating_add(1);
                 self.faults = self.faults.saturating_add(1);
                 Err(Failed)
             }
