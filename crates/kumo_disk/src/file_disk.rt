@@ -12,31 +12,17 @@ use std::rt::Files;
 /// The end of the longest area.
 const LAST_END: u64 = (1 << 63) - 1;
 
-/// The files `kumosend.spool.0` and `kumosend.spool.1` of a folder. Each is opened at its first use, and made where it is not
-/// there. Only `sync` flushes what was written. It tells no content.
+/// The two files, each opened at its first use.
 #[derive(Drop)]
-pub struct FileDisk<'a, R: Files> {
+struct AreaFiles<'a, R: Files> {
     files: &'a R,
     alloc: Global,
     folder: Text,
     first: Option<R::File>,
     second: Option<R::File>,
-    faults: u64,
 }
 
-impl<'a, R: Files> FileDisk<'a, R> {
-    /// The disk of a folder. Nothing is opened yet.
-    pub fn new(files: &'a R, alloc: Global, folder: Text) -> FileDisk<'a, R> {
-        FileDisk {
-            files,
-            alloc,
-            folder,
-            first: None,
-            second: None,
-            faults: 0,
-        }
-    }
-
+impl<'a, R: Files> AreaFiles<'a, R> {
     /// The file of an area, which is opened where it is not open yet.
     fn file_of(&mut self, area: u8) -> Result<&mut R::File, Failed> {
         if area == 0 {
@@ -58,9 +44,8 @@ impl<'a, R: Files> FileDisk<'a, R> {
         }
     }
 
-    fn try_length(&mut self, area: u8) -> Result<u64, Failed>
+    fn length(&mut self, area: u8) -> Result<u64, Failed>
         ensures bound { IfOk result (λ n. n < 2 ^ 63) }
-        ensures faults { self.new.faults ≡ self.old.faults }
     {
         let file = self.file_of(area)?;
         let Ok(found) = file.metadata() else {
@@ -73,9 +58,8 @@ impl<'a, R: Files> FileDisk<'a, R> {
         Ok(long)
     }
 
-    fn try_read(&mut self, area: u8, at: u64, buffer: &mut [u8]) -> Result<usize, Failed>
+    fn read(&mut self, area: u8, at: u64, buffer: &mut [u8]) -> Result<usize, Failed>
         ensures bound { IfOk result (λ n. n ≤ length buffer.new) }
-        ensures faults { self.new.faults ≡ self.old.faults }
     {
         let file = self.file_of(area)?;
         if file.seek(SeekFrom::Start(at)).is_err() {
@@ -84,9 +68,8 @@ impl<'a, R: Files> FileDisk<'a, R> {
         fill(file, buffer)
     }
 
-    fn try_write(&mut self, area: u8, at: u64, bytes: &[u8]) -> Result<(), Failed>
+    fn write(&mut self, area: u8, at: u64, bytes: &[u8]) -> Result<(), Failed>
         ensures bound { OnOk result (at + length bytes.now < 2 ^ 63) }
-        ensures faults { self.new.faults ≡ self.old.faults }
     {
         if at > LAST_END || bytes.len() as u64 > LAST_END - at {
             return Err(Failed);
@@ -98,9 +81,7 @@ impl<'a, R: Files> FileDisk<'a, R> {
         Ok(())
     }
 
-    fn try_cut(&mut self, area: u8, end: u64) -> Result<(), Failed>
-        ensures { self.new.faults ≡ self.old.faults }
-    {
+    fn cut(&mut self, area: u8, end: u64) -> Result<(), Failed> {
         let file = self.file_of(area)?;
         if file.set_len(end).is_err() {
             return Err(Failed);
@@ -108,9 +89,7 @@ impl<'a, R: Files> FileDisk<'a, R> {
         Ok(())
     }
 
-    fn try_sync(&mut self, area: u8) -> Result<(), Failed>
-        ensures { self.new.faults ≡ self.old.faults }
-    {
+    fn sync(&mut self, area: u8) -> Result<(), Failed> {
         let file = self.file_of(area)?;
         if file.sync_all().is_err() {
             return Err(Failed);
@@ -166,11 +145,35 @@ fn fill<F: Read>(file: &mut F, buffer: &mut [u8]) -> Result<usize, Failed>
     Ok(count)
 }
 
+/// The files `kumosend.spool.0` and `kumosend.spool.1` of a folder. Each is opened at its first use, and made where it is not
+/// there. Only `sync` flushes what was written. It tells no content.
+#[derive(Drop)]
+pub struct FileDisk<'a, R: Files> {
+    areas: AreaFiles<'a, R>,
+    faults: u64,
+}
+
+impl<'a, R: Files> FileDisk<'a, R> {
+    /// The disk of a folder. Nothing is opened yet.
+    pub fn new(files: &'a R, alloc: Global, folder: Text) -> FileDisk<'a, R> {
+        FileDisk {
+            areas: AreaFiles {
+                files,
+                alloc,
+                folder,
+                first: None,
+                second: None,
+            },
+            faults: 0,
+        }
+    }
+}
+
 impl<'a, R: Files> Disk for FileDisk<'a, R> {
     ghost seen = { λ disk. untold disk.faults };
 
     fn length(&mut self, area: u8) -> Result<u64, Failed> {
-        match self.try_length(area) {
+        match self.areas.length(area) {
             Ok(long) => Ok(long),
             Err(_) => {
                 self.faults = self.faults.saturating_add(1);
@@ -180,7 +183,7 @@ impl<'a, R: Files> Disk for FileDisk<'a, R> {
     }
 
     fn read(&mut self, area: u8, at: u64, buffer: &mut [u8]) -> Result<usize, Failed> {
-        match self.try_read(area, at, buffer) {
+        match self.areas.read(area, at, buffer) {
             Ok(count) => Ok(count),
             Err(_) => {
                 self.faults = self.faults.saturating_add(1);
@@ -190,7 +193,7 @@ impl<'a, R: Files> Disk for FileDisk<'a, R> {
     }
 
     fn read_exact(&mut self, area: u8, at: u64, buffer: &mut [u8]) -> Result<(), Failed> {
-        match self.try_read(area, at, buffer) {
+        match self.areas.read(area, at, buffer) {
             Ok(count) if count == buffer.len() => Ok(()),
             _ => {
                 self.faults = self.faults.saturating_add(1);
@@ -200,7 +203,7 @@ impl<'a, R: Files> Disk for FileDisk<'a, R> {
     }
 
     fn write_at(&mut self, area: u8, at: u64, bytes: &[u8]) -> Result<(), Failed> {
-        match self.try_write(area, at, bytes) {
+        match self.areas.write(area, at, bytes) {
             Ok(()) => Ok(()),
             Err(_) => {
                 self.faults = self.faults.saturating_add(1);
@@ -210,7 +213,7 @@ impl<'a, R: Files> Disk for FileDisk<'a, R> {
     }
 
     fn cut(&mut self, area: u8, end: u64) -> Result<(), Failed> {
-        match self.try_cut(area, end) {
+        match self.areas.cut(area, end) {
             Ok(()) => Ok(()),
             Err(_) => {
                 self.faults = self.faults.saturating_add(1);
@@ -220,7 +223,7 @@ impl<'a, R: Files> Disk for FileDisk<'a, R> {
     }
 
     fn sync(&mut self, area: u8) -> Result<(), Failed> {
-        match self.try_sync(area) {
+        match self.areas.sync(area) {
             Ok(()) => Ok(()),
             Err(_) => {
                 self.faults = self.faults.saturating_add(1);
