@@ -1,5 +1,5 @@
 -- Going back over a call that a disk in memory kept.
-use Rattle.std.proofs.Common.{◌≡◌, ◌≢◌, ℕ, ◌+◌, ◌-◌, ◌≤◌, ◌<◌, zero, suc, List, [], ◌∷◌, ◌++◌, length, take, drop, refl, sym, ◌∙◌, ap, subst, arith, min}
+use Rattle.std.proofs.Common.{◌≡◌, ◌≢◌, ℕ, ◌+◌, ◌-◌, ◌≤◌, ◌<◌, zero, suc, List, [], ◌++◌, length, take, drop, refl, sym, ◌∙◌, ap, subst, arith, min}
 use Rattle.std.proofs.lemmas.List.{take-append-drop, drop-drop, length-take-le, append-nil, append_assoc, length-append, length-drop, take_min}
 use Rattle.std.proofs.Math.Seq.{drop-append-add, drop-append_seam, take-append_seam, drop-length, take-length}
 use Rattle.kumo_disk.specs.Disk.{Image, area_of, with_bytes, Moved, Torn, Cut}

@@ -1,7 +1,7 @@
 -- What a crash may leave of a disk in memory after one call more.
-use Rattle.std.proofs.Common.{◌≡◌, ◌≢◌, ◌⊎◌, inl, inr, ⊎_elim, ℕ, ◌+◌, ◌≤◌, ◌<◌, zero, suc, List, [], ◌∷◌, ◌++◌, length, reverse, refl, sym, ◌∙◌, ap, subst, arith}
+use Rattle.std.proofs.Common.{◌≡◌, ◌≢◌, ◌⊎◌, inl, inr, ⊎_elim, ℕ, ◌+◌, ◌≤◌, zero, suc, List, [], ◌∷◌, ◌++◌, length, reverse, refl, sym, ◌∙◌, ap, subst, arith}
 use Rattle.std.proofs.lemmas.List.{reverse-append, length-append}
-use Rattle.kumo_disk.specs.Disk.{Image, area_of, DiskSeen, Lasts, Moved, Each, Same}
+use Rattle.kumo_disk.specs.Disk.{Image, area_of, Lasts, Moved, Each, Same}
 use Rattle.kumo_base.specs.Causes.{Rose}
 use Rattle.kumo_disk.specs.Memory.{reads, LeavesEach, undone, Does, May, MayAgo, MaySince, left_by, seen_by, may_as_read}
 use Rattle.kumo_disk.specs.inside.Keeping.{Keeps, IsRefused}

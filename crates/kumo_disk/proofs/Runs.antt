@@ -1,5 +1,5 @@
 -- How several calls of a disk are one.
-use Rattle.std.proofs.Common.{◌≡◌, ◌≢◌, ◌⊎◌, inl, inr, ⊎_elim, ℕ, ◌≤◌, List, Option, Some, None, IfSome, MatchOption, refl, sym, ◌∙◌, subst, ap, arith, length}
+use Rattle.std.proofs.Common.{◌≡◌, ◌≢◌, inl, inr, ⊎_elim, ℕ, List, Option, Some, None, IfSome, MatchOption, refl, sym, ◌∙◌, subst, arith, length}
 use Rattle.kumo_disk.specs.Disk.{Image, area_of, DiskSeen, Lasts, Moved, Each, ReadMoves, IsDurable, Same, Any, Torn, Cut}
 use Rattle.kumo_disk.specs.Calls.{Ran}
 

@@ -1,7 +1,7 @@
 -- A disk in memory: what it reads as, and what a crash may leave of it, by the calls that were made. Each call kept the bytes
 -- that it replaced, so that one goes back from what the disk reads as now.
-use Rattle.std.specs.Prelude.{◌≡◌, ◌⊎◌, ℕ, ◌+◌, ◌≤◌, List, [], ◌∷◌, ◌++◌, length, take, drop, reverse, Option, Some}
-use Rattle.std.proofs.Common.{zero, suc, inl, sym, arith}
+use Rattle.std.specs.Prelude.{◌≡◌, ◌⊎◌, ℕ, ◌+◌, ◌≤◌, List, [], ◌∷◌, ◌++◌, length, take, drop, reverse, Some}
+use Rattle.std.proofs.Common.{zero, suc, inl, arith}
 use Rattle.kumo_disk.specs.Disk.{Image, area_of, DiskSeen, Moved, Torn, Cut}
 use Rattle.kumo_disk.specs.declared.kept_call.KeptCall.{KeptCall}
 use Rattle.kumo_disk.specs.declared.kept_call.Effect.{Effect}

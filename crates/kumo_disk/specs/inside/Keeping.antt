@@ -1,5 +1,5 @@
 -- What it is to keep a call.
-use Rattle.std.specs.Prelude.{◌≡◌, ℕ, List, [], ◌∷◌, ◌++◌}
+use Rattle.std.specs.Prelude.{◌≡◌, ℕ, [], ◌∷◌, ◌++◌}
 use Rattle.kumo_base.specs.Causes.{Rose}
 use Rattle.kumo_disk.specs.Memory.{reads, undone}
 use Rattle.kumo_disk.specs.declared.kept_call.KeptCall.{KeptCall}

@@ -1,7 +1,6 @@
-use Rattle.std.proofs.Common.{rules, drop, ◌≡◌, ◌≤◌, ◌<◌, length, take, OnOk, OnErr, ℕ, ◌+◌, ◌-◌, List, [], ◌∷◌, ◌++◌, refl, ◌∙◌, ap}
-use Rattle.kumo_disk.specs.Disk.{area_of, with_bytes}
-use Rattle.kumo_disk.specs.Memory.{mem_seen, reads, with_area, Holds}
-use Rattle.kumo_disk.specs.inside.Keeping.{Keeps}
+use Rattle.std.proofs.Common.{drop, ◌≡◌, take, ℕ, ◌+◌, List, [], ◌++◌, refl, ◌∙◌, ap}
+use Rattle.kumo_disk.specs.Disk.{area_of}
+use Rattle.kumo_disk.specs.Memory.{reads}
 use Rattle.kumo_disk.proofs.GoingBack.{with_same, back_same}
 use Rattle.kumo_disk.proofs.mem_disk.MemDisk.keep.Goals as goal
 

@@ -1,12 +1,9 @@
-use Rattle.std.proofs.Common.{rules, ◌≡◌, ◌⊎◌, inl, inr, ◌≤◌, ◌<◌, ◌∷◌, ◌++◌, [], length, take, drop, OnOk, OnErr, ℕ, ◌+◌, ◌-◌, List, refl, sym, ◌∙◌, ap, subst}
-use Rattle.kumo_disk.specs.Disk.{area_of, with_bytes, Image, Torn, Cut, Same}
-use Rattle.kumo_disk.specs.Memory.{mem_seen, reads, with_area, before_call, Does}
-use Rattle.kumo_disk.specs.inside.Keeping.{Keeps}
+use Rattle.std.proofs.Common.{take, ℕ, List, refl, ◌∙◌}
+use Rattle.kumo_disk.specs.Disk.{area_of}
+use Rattle.kumo_disk.specs.Memory.{reads}
 use Rattle.kumo_disk.specs.declared.kept_call.KeptCall.{KeptCall}
-use Rattle.kumo_disk.specs.declared.kept_call.Effect.{Effect}
-use Rattle.kumo_disk.specs.declared.kept_call.Effect.TheVariants.{Write, Shorten, Sync}
-use Rattle.kumo_disk.proofs.GoingBack.{goes_back_by, back_write, back_cut, piece_read, moved_by, torn_same, torn_made, cut_same, cut_made}
-use Rattle.kumo_disk.proofs.KeptCalls.{keeps_lasts, keeps_each, tried_lasts, tried_each}
+use Rattle.kumo_disk.specs.declared.kept_call.Effect.TheVariants.{Shorten}
+use Rattle.kumo_disk.proofs.GoingBack.{goes_back_by, back_cut, piece_read}
 use Rattle.kumo_disk.proofs.mem_disk.MemDisk.shorten.Goals as goal
 
 pub returns-clause-keeps : goal.returns-clause-keeps
