@@ -1,5 +1,5 @@
 -- How several calls of a disk are one.
-use Rattle.std.proofs.Common.{◌≡◌, ◌≢◌, ◌⊎◌, inl, inr, ⊎_elim, ℕ, ◌≤◌, List, Option, Some, None, IfSome, MatchOption, refl, sym, ◌∙◌, subst, ap, arith, length}
+use Rattle.std.proofs.Common.{◌≡◌, ◌≢◌, inl, inr, ⊎_elim, ℕ, List, Option, Some, None, IfSome, MatchOption, refl, sym, ◌∙◌, subst, arith, length}
 use Rattle.kumo_disk.specs.Disk.{Image, area_of, DiskSeen, Lasts, Moved, Each, ReadMoves, IsDurable, Same, Any, Torn, Cut}
 use Rattle.kumo_disk.specs.Calls.{Ran}
 
@@ -51,8 +51,8 @@ reads_of area step old new untold moved = by old.told untold moved
 pub reads_as : (area : ℕ) (Q R : List ℕ → List ℕ → Type 0) (old new : DiskSeen) → ((b c : List ℕ) → Q b c → R b c) → ReadMoves area Q old new → ReadMoves area R old new
 reads_as area Q R old new weaker moves = reads_of area R old new (λ none. untold_from area Q old new none moves)
     (λ read is.
-        let after = moved_from area Q old new read is moves in
-        (after.0, after.1, record { here = weaker _ _ after.2.here; elsewhere = after.2.elsewhere }))
+    let after = moved_from area Q old new read is moves in
+    (after.0, after.1, record { here = weaker _ _ after.2.here; elsewhere = after.2.elsewhere }))
 
 pub reads_same : (area : ℕ) (old new : DiskSeen) → new.told ≡ old.told → ReadMoves area Any old new
 reads_same area old new same = reads_of area Any old new (λ none. same ∙ none)
@@ -63,9 +63,9 @@ pub reads_then : (area : ℕ) (Q R S : List ℕ → List ℕ → Type 0) (a b c 
 reads_then area Q R S a b c both first second = reads_of area S a c
     (λ none. untold_from area R b c (untold_from area Q a b none first) second)
     (λ read is.
-        let mid = moved_from area Q a b read is first in
-        let end = moved_from area R b c mid.0 mid.1 second in
-        (end.0, end.1, record { here = both _ _ _ mid.2.here end.2.here; elsewhere = λ other differs. end.2.elsewhere other differs ∙ mid.2.elsewhere other differs }))
+    let mid = moved_from area Q a b read is first in
+    let end = moved_from area R b c mid.0 mid.1 second in
+    (end.0, end.1, record { here = both _ _ _ mid.2.here end.2.here; elsewhere = λ other differs. end.2.elsewhere other differs ∙ mid.2.elsewhere other differs }))
 
 pub lasts_now : (d : DiskSeen) → Lasts d d
 lasts_now d = record { later = omega arith; nothing_else = λ s image le left. inl left; keeps = λ s image le left. left }
@@ -92,10 +92,14 @@ each_then area Q R S a b c before time first second alone both = λ image left. 
     here image comes = (comes.0, comes.1, moved_as area Q S comes.0 image (alone comes.0 comes.1) comes.2)
 
     joined : (image : Image) (mid : Image) → b.left b.moment mid → Moved area R mid image → (from : Image) × a.left a.moment from × Moved area Q from mid → (from : Image) × a.left a.moment from × Moved area S from image
-    joined image mid was last comes = (comes.0, comes.1, record {
-      here = both comes.0 comes.1 mid was comes.2.here (area_of area image) last.here;
-      elsewhere = λ other differs. last.elsewhere other differs ∙ comes.2.elsewhere other differs;
-    })
+    joined image mid was last comes = (
+      comes.0,
+      comes.1,
+      record {
+        here = both comes.0 comes.1 mid was comes.2.here (area_of area image) last.here;
+        elsewhere = λ other differs. last.elsewhere other differs ∙ comes.2.elsewhere other differs;
+      },
+    )
 
     there : (image : Image) → (mid : Image) × b.left b.moment mid × Moved area R mid image → (from : Image) × a.left a.moment from × Moved area S from image
     there image last = joined image last.0 last.1 last.2 (first last.0 (b.earlier a.moment b.moment last.0 before.later (omega arith) last.1))
@@ -123,7 +127,7 @@ ran_then area Q R S a b c alone both first second = record {
   images = if_some (λ read. Each area S a c) a.told (λ read is.
       let mid = moved_from area Any a b read is first.reads in
       each_then area Q R S a b c first.time second.time (at_some (λ read. Each area Q a b) a.told read is first.images) (at_some (λ read. Each area R b c) b.told mid.0 mid.1 second.images)
-          (λ d was e. alone (area_of area d) e) (λ d was e now q f r. both (area_of area d) (area_of area e) f q r));
+      (λ d was e. alone (area_of area d) e) (λ d was e now q f r. both (area_of area d) (area_of area e) f q r));
   reads = reads_then area Any Any Any a b c (λ x y z p q. tt) first.reads second.reads;
 }
 
@@ -138,8 +142,8 @@ ran_known area Q R S K a b c alone both at_first moves then first second = recor
       let was_only : (d : Image) → a.left a.moment d → area_of area d ≡ area_of area read = at_some (λ read. (d : Image) → a.left a.moment d → area_of area d ≡ area_of area read) a.told read is at_first in
       let is_only : (d : Image) → b.left b.moment d → area_of area d ≡ area_of area mid.0 = at_some (λ read. (d : Image) → b.left b.moment d → area_of area d ≡ area_of area read) b.told mid.0 mid.1 then in
       each_then area Q R S a b c first.time second.time (at_some (λ read. Each area Q a b) a.told read is first.images) (at_some (λ read. Each area R b c) b.told mid.0 mid.1 second.images)
-          (λ d was e. alone (area_of area d) e)
-          (λ d was e now q f r. subst (λ (l : List ℕ). S l f) (sym (was_only d was)) (both (area_of area read) (area_of area mid.0) f mid.2.here (subst (λ (l : List ℕ). R l f) (is_only e now) r))));
+      (λ d was e. alone (area_of area d) e)
+      (λ d was e now q f r. subst (λ (l : List ℕ). S l f) (sym (was_only d was)) (both (area_of area read) (area_of area mid.0) f mid.2.here (subst (λ (l : List ℕ). R l f) (is_only e now) r))));
   reads = reads_then area Any Any Any a b c (λ x y z p q. tt) first.reads second.reads;
 }
 
@@ -152,9 +156,12 @@ pub ran_write : (area at n : ℕ) (Q : List ℕ → List ℕ → Type 0) (old ne
 ran_write area at n Q old new time images part weaker = record {
   time = time;
   images = if_some (λ read. Each area Q old new) old.told (λ read is image left.
-      let comes = at_some (λ read. Each area (Torn at n (length (area_of area read))) old new) old.told read is images image left in
-      (comes.0, comes.1, moved_as area (Torn at n (length (area_of area read))) Q comes.0 image
-          (at_some (λ read. (d e : List ℕ) → Torn at n (length (area_of area read)) d e → Q d e) old.told read is weaker (area_of area comes.0)) comes.2));
+      let comes = at_some (λ read. Each area (Torn at n (length (area_of area read))) old new) old.told read is images image left in (
+        comes.0,
+        comes.1,
+        moved_as area (Torn at n (length (area_of area read))) Q comes.0 image
+            (at_some (λ read. (d e : List ℕ) → Torn at n (length (area_of area read)) d e → Q d e) old.told read is weaker (area_of area comes.0)) comes.2,
+      ));
   reads = reads_as area (λ was. Torn at n (length was) was) Any old new (λ b c torn. tt) part;
 }
 
@@ -185,4 +192,4 @@ durable_elsewhere area other step old new differs ran durable = if_some (λ read
         let before = told_before area Any old new read is ran.reads in
         let comes = at_some (λ read. Each area step old new) old.told before.0 before.1 ran.images image (new.earlier old.moment new.moment image ran.time.later (omega arith) now) in
         comes.2.elsewhere other differs ∙ at_some (λ read. (image : Image) → old.left old.moment image → area_of other image ≡ area_of other read) old.told before.0 before.1 durable comes.0 comes.1
-          ∙ sym (before.2.elsewhere other differs)
+        ∙ sym (before.2.elsewhere other differs)

@@ -1,2 +1,4 @@
 pub mod Disk
 pub mod Calls
+pub mod Memory
+pub mod inside
