@@ -1,0 +1,38 @@
+-- What a crash may leave of a spool, at any moment of a call or of several.
+use Rattle.std.specs.Prelude.{◌≡◌, ◌⊎◌, ℕ, List, Option, Some, None, IfSome, MatchOption}
+use Rattle.kumo_disk.specs.Disk.{Image, DiskSeen, Lasts}
+use Rattle.spool_format.specs.declared.kept.Kept.{Kept}
+use Rattle.spool_store.specs.Reading.{Reads, Broken, Recovers}
+
+-- a crash leaves what a read gives, and nothing else
+abbrev pub IsOnDisk : DiskSeen → Type 0
+IsOnDisk seen = IfSome seen.told (λ read. (image : Image) → seen.left seen.moment image → image ≡ read)
+
+-- Each image since the call began is so, by what was read when it began; the images from before are as they were; and what was
+-- told still is.
+pub record Since (P : Image → Image → Type 0) (old new : DiskSeen) : Type 0 where
+  pub time : Lasts old new
+  pub images : IfSome old.told (λ read. (image : Image) → new.left old.moment image → P read image)
+  pub still : MatchOption old.told (new.told ≡ None) (λ read. (now : Image) × (new.told ≡ Some now))
+
+-- these messages are pending, or those
+abbrev pub Either : List Kept → List Kept → Image → Image → Type 0
+Either before later read image = Recovers image before ⊎ Recovers image later
+
+-- it stands for what was read
+pub record StandsForRead (read image : Image) : Type 0 where
+  pub sound : (kept : List Kept) → Recovers read kept → Recovers image kept
+  pub broken : (n at : ℕ) → Reads read (Broken n at) → Reads image (Broken n at)
+
+-- The opening syncs were made, and from then on each image stands for what was read.
+pub record IsOpened (old new : DiskSeen) : Type 1 where
+  pub mid : DiskSeen
+  pub same : mid.told ≡ old.told
+  pub first : Lasts old mid
+  pub on_disk : IsOnDisk mid
+  pub then : Since StandsForRead mid new
+
+-- A sync failed, and both areas read as before.
+pub record IsNotSynced (old new : DiskSeen) : Type 0 where
+  pub same : new.told ≡ old.told
+  pub time : Lasts old new

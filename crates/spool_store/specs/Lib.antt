@@ -1,0 +1,4 @@
+pub mod Content
+pub mod Reading
+pub mod Crash
+pub mod inside

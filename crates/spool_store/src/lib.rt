@@ -1,0 +1,6 @@
+//! The spool: which messages were accepted and have no fate yet, on a disk that may stop at any moment.
+#![tactic(auto)]
+
+mod limits;
+
+pub use limits::AREA_LIMIT;
