@@ -1,4 +1,5 @@
 pub mod Content
 pub mod Reading
 pub mod Crash
+pub mod Store
 pub mod inside

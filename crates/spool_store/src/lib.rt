@@ -1,6 +1,8 @@
 //! The spool: which messages were accepted and have no fate yet, on a disk that may stop at any moment.
 #![tactic(auto)]
 
+mod faults;
 mod limits;
 
+pub use faults::{OpenFault, RewriteFault};
 pub use limits::AREA_LIMIT;
