@@ -1,2 +1,5 @@
 pub mod Unique
 pub mod Forces
+pub mod Keeping
+pub mod Lists
+pub mod Adding

@@ -82,3 +82,15 @@ abbrev pub played : ℕ → ℕ → List Item → List LogRecord → Option (Lis
 played version at items [] = Some items
 played version at items (r ∷ rs) =
     and_then (after version at items r) (λ later. played version (at + length (bytes_of r)) later rs)
+
+-- the same of messages without the offsets of their payloads
+abbrev pub without_kept : ℕ → List Kept → List Kept
+without_kept id [] = []
+without_kept id (k ∷ kept) = if k.message.id == id then kept else k ∷ without_kept id kept
+
+abbrev pub deferred_kept : Deferral → Kept → Kept
+deferred_kept d k = record { message = k.message; failures = d.failures; due = d.due }
+
+abbrev pub with_deferral_kept : Deferral → List Kept → List Kept
+with_deferral_kept d [] = []
+with_deferral_kept d (k ∷ kept) = if k.message.id == d.id then deferred_kept d k ∷ kept else k ∷ with_deferral_kept d kept

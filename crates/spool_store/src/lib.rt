@@ -3,6 +3,7 @@
 
 mod faults;
 mod limits;
+mod records;
 
 pub use faults::{OpenFault, RewriteFault};
 pub use limits::AREA_LIMIT;
