@@ -3,3 +3,4 @@ pub mod Forces
 pub mod Keeping
 pub mod Lists
 pub mod Adding
+pub mod Waiting

@@ -1,8 +1,5 @@
 //! Why a call of a spool could not do what it was asked.
 
-use kumo_base::Memory;
-use std::alloc::AllocError;
-
 /// Why a spool could not be opened.
 #[derive(Clone, Copy, Debug, PartialEq, Eq)]
 pub enum OpenFault {
@@ -22,5 +19,38 @@ pub enum RewriteFault {
     /// The disk failed, and its count of faults has risen.
     DiskFault,
     /// There was no memory. Nothing was done.
+    Memory,
+}
+
+/// Why a message could not be held.
+#[derive(Clone, Copy, Debug, PartialEq, Eq)]
+pub enum HoldFault {
+    /// The disk failed in an earlier call. Nothing was done.
+    Down,
+    /// With this message the pending ones might need more than an area may have. Nothing was done.
+    SpoolFull,
+    /// The disk failed, and its count of faults has risen. The store is down.
+    DiskFault,
+    /// There was no memory. The message is not pending, and the others are as before.
+    Memory,
+}
+
+/// Why a message could not be settled or deferred.
+#[derive(Clone, Copy, Debug, PartialEq, Eq)]
+pub enum SettleFault {
+    /// The disk failed in an earlier call. Nothing was done.
+    Down,
+    /// The disk failed, and its count of faults has risen. The store is down.
+    DiskFault,
+}
+
+/// Why room could not be made, or the pending messages not be written anew.
+#[derive(Clone, Copy, Debug, PartialEq, Eq)]
+pub enum CompactFault {
+    /// The disk failed in an earlier call. Nothing was done.
+    Down,
+    /// The disk failed, and its count of faults has risen. The store is down.
+    DiskFault,
+    /// There was no memory. The store goes on as before.
     Memory,
 }

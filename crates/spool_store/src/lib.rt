@@ -2,8 +2,12 @@
 #![tactic(auto)]
 
 mod faults;
+mod fitting;
 mod limits;
 mod records;
+mod rewrite;
+mod store;
 
-pub use faults::{OpenFault, RewriteFault};
+pub use faults::{CompactFault, HoldFault, OpenFault, RewriteFault, SettleFault};
 pub use limits::AREA_LIMIT;
+pub use store::Store;
