@@ -4,3 +4,4 @@ pub mod Keeping
 pub mod Lists
 pub mod Adding
 pub mod Waiting
+pub mod Wholes

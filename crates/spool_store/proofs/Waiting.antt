@@ -5,6 +5,7 @@ use Rattle.std.proofs.lemmas.List.{length-map, map-append, length-append}
 use Rattle.std.proofs.lemmas.List.Sums.{sum_by-append}
 use Rattle.spool_index.specs.declared.place.Place.{Place}
 use Rattle.spool_index.specs.Places.{has, without, with_delay, delayed, record_size, live_cost, compacted_cost, live_size, compacted_size}
+use Rattle.spool_index.proofs.PlaceLemmas.{sum_between}
 use Rattle.spool_store.specs.Store.{unplaced}
 
 pub has-unplaced : (id : ℕ) (ps : List Place) → has id (map unplaced ps) ≡ has id ps
@@ -30,7 +31,7 @@ delay-unplaced id failures due (p ∷ ps) = by (p.id == id) (delay-unplaced id f
 
 sum-unplaced : (f : Place → ℕ) → ((p : Place) → f (unplaced p) ≡ f p) → (ps : List Place) → sum_by f (map unplaced ps) ≡ sum_by f ps
 sum-unplaced f same [] = refl
-sum-unplaced f same (p ∷ ps) = omega (arith, same p, sum-unplaced f same ps)
+sum-unplaced f same (p ∷ ps) = omega (arith, same p, sum-unplaced f same ps, sum_between f [] p ps, sum_between f [] (unplaced p) (map unplaced ps))
 
 pub live-unplaced : (ps : List Place) → live_size (map unplaced ps) ≡ live_size ps
 live-unplaced ps = ap (λ (n : ℕ). 17 + n) (sum-unplaced live_cost (λ p. refl) ps)
@@ -64,4 +65,42 @@ compacted_room ps = omega (arith, sums ps)
 
     sums : (ps : List Place) → sum_by compacted_cost ps + 56 * length ps ≤ sum_by live_cost ps
     sums [] = omega arith
-    sums (p ∷ ps) = omega (arith, cost p, sums ps)
+    sums (p ∷ ps) = omega (arith, cost p, sums ps, sum_between compacted_cost [] p ps, sum_between live_cost [] p ps)
+
+pub length-without : (id : ℕ) (ps : List Place) → has id ps ≡ true → length (without id ps) + 1 ≡ length ps
+length-without id [] known = absurd (let clash : false ≡ true = known in cc)
+length-without id (p ∷ ps) known = by (p.id == id) (λ rest. length-without id ps rest) known
+  where
+    by : (t : Bool) → (has id ps ≡ true → length (without id ps) + 1 ≡ length ps) → (t || has id ps) ≡ true → length (cond t ps (p ∷ without id ps)) + 1 ≡ length (p ∷ ps)
+    by true more known = omega arith
+    by false more known = omega (arith, more known)
+
+pub live-without : (id : ℕ) (ps : List Place) → live_size (without id ps) ≤ live_size ps
+live-without id ps = omega (arith, sums ps)
+  where
+    sums : (ps : List Place) → sum_by live_cost (without id ps) ≤ sum_by live_cost ps
+    sums [] = omega arith
+    sums (p ∷ ps) = by (p.id == id) (sums ps)
+      where
+        by : (t : Bool) → sum_by live_cost (without id ps) ≤ sum_by live_cost ps → sum_by live_cost (cond t ps (p ∷ without id ps)) ≤ sum_by live_cost (p ∷ ps)
+        by true less = omega (arith, sum_between live_cost [] p ps)
+        by false less = omega (arith, less, sum_between live_cost [] p ps, sum_between live_cost [] p (without id ps))
+
+pub length-delay : (id failures due : ℕ) (ps : List Place) → length (with_delay id failures due ps) ≡ length ps
+length-delay id failures due [] = refl
+length-delay id failures due (p ∷ ps) = by (p.id == id) (length-delay id failures due ps)
+  where
+    by : (t : Bool) → length (with_delay id failures due ps) ≡ length ps → length (cond t (delayed failures due p ∷ ps) (p ∷ with_delay id failures due ps)) ≡ length (p ∷ ps)
+    by true same = refl
+    by false same = omega (arith, same)
+
+pub live-delay : (id failures due : ℕ) (ps : List Place) → live_size (with_delay id failures due ps) ≡ live_size ps
+live-delay id failures due ps = omega (arith, sums ps)
+  where
+    sums : (ps : List Place) → sum_by live_cost (with_delay id failures due ps) ≡ sum_by live_cost ps
+    sums [] = refl
+    sums (p ∷ ps) = by (p.id == id) (sums ps)
+      where
+        by : (t : Bool) → sum_by live_cost (with_delay id failures due ps) ≡ sum_by live_cost ps → sum_by live_cost (cond t (delayed failures due p ∷ ps) (p ∷ with_delay id failures due ps)) ≡ sum_by live_cost (p ∷ ps)
+        by true same = omega (arith, sum_between live_cost [] p ps, sum_between live_cost [] (delayed failures due p) ps)
+        by false same = omega (arith, same, sum_between live_cost [] p ps, sum_between live_cost [] p (with_delay id failures due ps))

@@ -24,7 +24,8 @@ use std::marker::Model;
 
 /// A spool in use. After a fault of its disk it is down: then no call of it makes a call on the disk, and opening the disk again
 /// gives what is pending.
-pub struct Store<D: Disk> {
+#[derive(Drop)]
+pub struct Store<D: Disk + Drop> {
     disk: D,
     log: Log,
     pending: Pending,
@@ -33,7 +34,7 @@ pub struct Store<D: Disk> {
     down: bool,
 }
 
-impl<D: Disk> Model for Store<D> {
+impl<D: Disk + Drop> Model for Store<D> {
     ghost use Rattle.std.specs.Prelude.{◌≡◌, ◌+◌, false, map};
     ghost use Rattle.spool_store.specs.Store.{StoreSeen, unplaced};
     ghost use Rattle.spool_store.specs.inside.Whole.{IsWhole};
@@ -45,7 +46,7 @@ impl<D: Disk> Model for Store<D> {
     ghost invariant = { λ s. s.down ≡ false → IsWhole s.log s.pending s.room (D.seen s.disk) };
 }
 
-impl<D: Disk> Store<D> {
+impl<D: Disk + Drop> Store<D> {
     /// How many messages are pending.
     pub fn len(&self) -> usize
         ensures { result ≡ length self.now.pending }
@@ -57,7 +58,10 @@ impl<D: Disk> Store<D> {
     pub fn contains(&self, id: u128) -> bool
         ensures { result ≡ has id self.now.pending }
     {
-        self.pending.find(id).is_some()
+        match self.pending.find(id) {
+            Some(_) => true,
+            None => false,
+        }
     }
 
     /// Whether the disk has failed.
@@ -207,8 +211,7 @@ impl<D: Disk> Store<D> {
     pub fn wants_compact(&self) -> bool
         ensures { result ≡ wants_compact self.now }
     {
-        let length = self.log.end + 1;
-        length >= 65_536 && self.pending.compacted_size() < length - length / 2
+        self.log.end >= 65_535 && self.pending.compacted_size() <= self.log.end / 2
     }
 
     /// Writes the pending messages anew into the other area.
