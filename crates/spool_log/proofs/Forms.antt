@@ -123,7 +123,7 @@ module _ (h : Header) (rs : List LogRecord) (end : ℕ) where
         let before : take end f ≡ front = flip.before ∙ ap (λ (l : List ℕ). take end l) s.split ∙ take_at front (s.gate ∷ back) end (sym s.ends) in
         let whole : c ≡ (front ++ s.gate ∷ []) ++ back = s.split ∙ sym (append_assoc front (s.gate ∷ []) back) in
         let after : drop (end + 1) f ≡ back = flip.after ∙ ap (λ (l : List ℕ). drop (end + 1) l) whole
-            ∙ drop_at (front ++ s.gate ∷ []) back (end + 1) (omega (arith, s.ends, length-append front (s.gate ∷ []))) in
+        ∙ drop_at (front ++ s.gate ∷ []) back (end + 1) (omega (arith, s.ends, length-append front (s.gate ∷ []))) in
         sym (take-append-drop end f) ∙ ap (λ (l : List ℕ). l ++ drop end f) before
         ∙ ap (λ (l : List ℕ). front ++ l) (drop_more f end 0 (omega (arith, within, flip.long)) ∙ ap (λ (l : List ℕ). get_or f end 0 ∷ l) after)
 
@@ -143,7 +143,7 @@ module _ (h : Header) (rs : List LogRecord) (end : ℕ) where
         let whole : c ≡ (front ++ s.gate ∷ []) ++ back = s.split ∙ sym (append_assoc front (s.gate ∷ []) back) in
         let before : take end c ≡ front = ap (λ (l : List ℕ). take end l) s.split ∙ take_at front (s.gate ∷ back) end (sym s.ends) in
         let after : drop (end + 1) c ≡ back = ap (λ (l : List ℕ). drop (end + 1) l) whole
-            ∙ drop_at (front ++ s.gate ∷ []) back (end + 1) (omega (arith, s.ends, length-append front (s.gate ∷ []))) in
+        ∙ drop_at (front ++ s.gate ∷ []) back (end + 1) (omega (arith, s.ends, length-append front (s.gate ∷ []))) in
         opened c s f (written ∙ ap (λ (l : List ℕ). l ++ 1 ∷ [] ++ drop (end + 1) c) before ∙ ap (λ (l : List ℕ). front ++ 1 ∷ [] ++ l) after ∙ append_assoc front (1 ∷ []) back)
 
 -- an append in two steps: the record behind the closed gate, then the gate

@@ -72,7 +72,7 @@ start_long (a ∷ []) le = refl
 start_long (a ∷ b ∷ bytes) le =
     let version : version_in (take 17 (a ∷ b ∷ bytes)) ≡ version_in (a ∷ b ∷ bytes) = version_front (a ∷ b ∷ bytes) in
     let wrong : first_wrong (magic (version_in (take 17 (a ∷ b ∷ bytes)))) 1 (take 16 (b ∷ bytes)) ≡ first_wrong (magic (version_in (a ∷ b ∷ bytes))) 1 (b ∷ bytes) =
-        ap (λ (v : ℕ). first_wrong (magic v) 1 (take 16 (b ∷ bytes))) version ∙ first_wrong_front (magic (version_in (a ∷ b ∷ bytes))) 16 1 (b ∷ bytes) (omega arith) in
+    ap (λ (v : ℕ). first_wrong (magic v) 1 (take 16 (b ∷ bytes))) version ∙ first_wrong_front (magic (version_in (a ∷ b ∷ bytes))) 16 1 (b ∷ bytes) (omega arith) in
     ap (λ (s : Start). cond (a == 1) s Blank) (by_magic_front _ _ (take 17 (a ∷ b ∷ bytes)) (a ∷ b ∷ bytes) wrong (by_length_front (a ∷ b ∷ bytes) le))
 
 -- what was read of the first bytes tells it

@@ -16,7 +16,7 @@ record_split x kind a b c d size rest one is bytes room small area at split =
     let long : length payload ≡ size = length-take-le size rest (omega (arith, room)) in
     let head : to_be_bytes w32 size ≡ a ∷ b ∷ c ∷ d ∷ [] = be_bytes_4 (a ∷ b ∷ c ∷ d ∷ []) size refl bytes is in
     let back : rest ≡ payload ++ get_or rest size 0 ∷ drop (size + 1) rest =
-        sym (take-append-drop size rest) ∙ ap (λ (l : List ℕ). payload ++ l) (drop_more rest size 0 (omega (arith, room))) in
+    sym (take-append-drop size rest) ∙ ap (λ (l : List ℕ). payload ++ l) (drop_more rest size 0 (omega (arith, room))) in
     record {
       gate = get_or rest size 0;
       rest = drop (size + 1) rest;

@@ -31,6 +31,6 @@ returns-clause-ready g c =
       form = append_form c.args.self.now.header c.args.self.now.area c.args.self.now.end r c.requires.size (g.D.Disk.seen c.args.disk.now) (g.D.Disk.seen c.stage.new.disk) (g.D.Disk.seen c.set_gate.new.disk)
           c.requires.ready.form
           (append_added c.args.self.now.header c.args.self.now.area c.args.self.now.end r c.requires.size (g.D.Disk.seen c.args.disk.now) (g.D.Disk.seen c.stage.new.disk) (g.D.Disk.seen c.set_gate.new.disk)
-              c.in_ok-stage.ensures.written c.in_ok-set_gate.ensures.written);
+          c.in_ok-stage.ensures.written c.in_ok-set_gate.ensures.written);
       durable = c.in_ok-set_gate.ensures.durable;
     }
