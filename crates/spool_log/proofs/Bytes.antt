@@ -1,12 +1,12 @@
 -- What calls of the disk do to the bytes of one area, one after the other.
-use Rattle.std.proofs.Common.{◌≡◌, ◌≢◌, ◌⊎◌, inl, inr, ℕ, zero, suc, ◌+◌, ◌≤◌, ◌<◌, min, max, List, [], ◌∷◌, ◌++◌, length, take, drop, get_or, Option, Some, None, IfSome, Result, Ok, Err, OnOk, refl, sym, ◌∙◌, subst, ap, arith}
-use Rattle.std.proofs.lemmas.List.{take_at, drop_at, take-take, drop-drop, take_all, take-append-drop, length-take-le, length-append, length-drop, append_assoc, drop_more}
+use Rattle.std.proofs.Common.{◌≡◌, ℕ, zero, suc, ◌+◌, ◌≤◌, ◌<◌, min, List, [], ◌∷◌, ◌++◌, length, take, drop, IfSome, Result, Ok, Err, OnOk, refl, sym, ◌∙◌, subst, ap, arith}
+use Rattle.std.proofs.lemmas.List.{take_at, take-take, drop-drop, take_all, length-take-le, length-append, length-drop, append_assoc}
 use Rattle.std.proofs.Math.Seq.{drop-append-add}
-use Rattle.kumo_disk.specs.Disk.{Image, area_of, DiskSeen, Lasts, Each, ReadMoves, Same, Written, with_bytes, Torn, Cut, Shortened}
+use Rattle.kumo_disk.specs.Disk.{area_of, DiskSeen, Lasts, Each, ReadMoves, Same, Written, with_bytes, Torn, Cut}
 use Rattle.kumo_disk.specs.Calls.{Ran}
 use Rattle.kumo_disk.proofs.Runs.{at_some, if_some, ran_then, ran_same, ran_write}
 use Rattle.kumo_disk.proofs.Known.{reads_then_at, told_after}
-use Rattle.spool_log.specs.inside.Steps.{KeepsFront, Flipped, Flips, StaysShort}
+use Rattle.spool_log.specs.inside.Steps.{KeepsFront, Flips, StaysShort}
 
 pub keeps_same : (k : ℕ) (d : List ℕ) → KeepsFront k d d
 keeps_same k d = λ j le short. (short, refl)

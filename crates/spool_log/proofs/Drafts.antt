@@ -1,22 +1,20 @@
 -- What a draft's calls leave of its area, and what a log's do.
-use Rattle.std.proofs.Common.{◌≡◌, ◌≢◌, ◌⊎◌, inl, inr, ⊎_elim, Bool, true, false, ◌==◌, ℕ, ◌+◌, ◌≤◌, ◌<◌, ◌^◌, List, [], ◌∷◌, ◌++◌, length, take, drop, get_or, Option, Some, None, IfSome, refl, sym, ◌∙◌, subst, ap, arith}
+use Rattle.std.proofs.Common.{◌≡◌, ◌≢◌, inl, inr, Bool, true, false, ◌==◌, ℕ, ◌+◌, ◌≤◌, ◌<◌, ◌^◌, List, [], ◌∷◌, ◌++◌, length, get_or, Some, IfSome, sym, ◌∙◌, subst, ap, arith}
 use Rattle.std.specs.Bool.{⊤}
 use Rattle.std.proofs.lemmas.Bool.Decides.{nat_tests}
 use Rattle.std.proofs.lemmas.List.{append_assoc, length-append}
-use Rattle.kumo_disk.specs.Disk.{Image, area_of, DiskSeen, Lasts, Each, ReadMoves, IsDurable, Same, Any, Written, with_bytes, Cut}
+use Rattle.kumo_disk.specs.Disk.{Image, area_of, DiskSeen, ReadMoves, IsDurable, Same, Written, with_bytes, Cut}
 use Rattle.kumo_disk.specs.Calls.{Ran}
-use Rattle.kumo_disk.proofs.Runs.{at_some, if_some, ran_as, ran_then, ran_known, reads_then}
-use Rattle.kumo_disk.proofs.Known.{AllLeft, ran_by, left_after, left_durable, left_any, told_after, reads_then_at, reads_as_at}
+use Rattle.kumo_disk.proofs.Runs.{at_some, if_some, ran_as, ran_known, reads_then}
+use Rattle.kumo_disk.proofs.Known.{AllLeft, ran_by, left_after, left_durable, left_any, told_after, reads_as_at}
 use Rattle.spool_log.specs.declared.head.Header.{Header}
-use Rattle.spool_log.specs.declared.head.Start.TheVariants.{Blank}
 use Rattle.spool_log.specs.declared.draft.Draft.{Draft}
-use Rattle.spool_log.specs.declared.log.Log.{Log}
-use Rattle.spool_log.specs.Area.{LogRecord, body_of, bytes_of, bytes_of_all, header_of, header_rest, IsVersion, AreSmall, Form, IsForm, Adds, Added}
-use Rattle.spool_log.specs.Head.{start_of, Clears, StartsShut}
-use Rattle.spool_log.specs.Log.{IsReady, IsDraft, Creates, BeginsBlank, StaysShut, Opens}
+use Rattle.spool_log.specs.Area.{LogRecord, body_of, bytes_of, bytes_of_all, header_rest, Form, IsForm, Adds, Added}
+use Rattle.spool_log.specs.Head.{Clears, StartsShut}
+use Rattle.spool_log.specs.Log.{IsDraft, BeginsBlank, StaysShut, Opens}
 use Rattle.spool_log.specs.inside.Steps.{KeepsFront, Flips, StaysShort, Becomes}
-use Rattle.spool_log.proofs.Bytes.{written_then, with_at_end}
-use Rattle.spool_log.proofs.Forms.{bytes-push, small-push, keeps_adds, flips_adds, opens_adds, blank_short, blank_shut, blank_gate, keeps_shut, flips_opens, written_opens, cut_blank, flips_clears}
+use Rattle.spool_log.proofs.Bytes.{with_at_end}
+use Rattle.spool_log.proofs.Forms.{bytes-push, small-push, keeps_adds, flips_adds, opens_adds, blank_short, blank_shut, keeps_shut, flips_opens, written_opens, cut_blank, flips_clears}
 
 -- an area of at most one byte became one closed gate
 module _ (area : ℕ) (a b c : DiskSeen) (durable : IsDurable area a) (short : IfSome a.told (λ read. length (area_of area read) ≤ 1))

@@ -1,4 +1,3 @@
-use Rattle.std.proofs.Common.{◌≡◌, ◌≤◌, ◌<◌, ◌+◌, ◌++◌, [], ◌∷◌, length, List, ℕ, arith, ap, sym, ◌∙◌, subst, refl}
 use Rattle.kumo_disk.specs.Disk.{Cut}
 use Rattle.kumo_disk.proofs.Runs.{ran_write, ran_cut, ran_as, ran_then}
 use Rattle.spool_log.proofs.calls.empty.Goals as goal

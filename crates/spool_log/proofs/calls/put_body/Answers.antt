@@ -1,6 +1,5 @@
-use Rattle.std.proofs.Common.{◌≡◌, ◌≤◌, ◌<◌, ◌+◌, ◌++◌, [], ◌∷◌, length, List, ℕ, arith, ap, sym, ◌∙◌, subst, refl}
+use Rattle.std.proofs.Common.{◌+◌, ◌++◌, length, List, ℕ, arith, ap, sym, subst}
 use Rattle.kumo_disk.specs.Disk.{ReadMoves, Written}
-use Rattle.spool_log.specs.Area.{head_of}
 use Rattle.spool_log.proofs.calls.put_body.Goals as goal
 use Rattle.spool_log.proofs.Bytes.{ran_puts, on_ok_as, written_then}
 

@@ -1,4 +1,3 @@
-use Rattle.std.proofs.Common.{◌≡◌, ◌≤◌, ◌<◌, ◌+◌, ◌++◌, [], ◌∷◌, length, List, ℕ, arith, ap, sym, ◌∙◌, subst, refl}
 use Rattle.kumo_disk.proofs.Runs.{ran_write}
 use Rattle.spool_log.proofs.calls.set_gate.Goals as goal
 use Rattle.spool_log.proofs.Bytes.{flips_written, ran_synced}

@@ -1,4 +1,4 @@
-use Rattle.std.proofs.Common.{◌≡◌, ◌≤◌, ◌<◌, ◌+◌, ◌++◌, [], ◌∷◌, length, List, ℕ, arith, ap, sym, ◌∙◌, subst, refl}
+use Rattle.std.proofs.Common.{◌+◌, [], ◌∷◌, length, arith}
 use Rattle.spool_log.proofs.calls.stage.Goals as goal
 use Rattle.spool_log.specs.Area.{body_of}
 use Rattle.spool_log.proofs.Bytes.{ran_puts, on_ok_as, written_then}

@@ -1,5 +1,5 @@
-use Rattle.std.proofs.Common.{◌≡◌, ◌+◌, ◌<◌, ◌^◌, ◌∷◌, [], List, ℕ, arith, refl, inl, inr, sym, subst, length, IfSome, ◌∙◌}
-use Rattle.kumo_disk.specs.Disk.{Same, IsDurable}
+use Rattle.std.proofs.Common.{arith, refl, ◌∙◌}
+use Rattle.kumo_disk.specs.Disk.{Same}
 use Rattle.kumo_disk.proofs.Runs.{ran_same, durable_stays}
 use Rattle.spool_log.proofs.Bytes.{ran_after}
 use Rattle.spool_log.proofs.Drafts.{clears_same, clears_shut, clears_cut, gate_written, gate_open, gate_shut_read}

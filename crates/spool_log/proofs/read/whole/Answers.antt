@@ -1,4 +1,4 @@
-use Rattle.std.proofs.Common.{◌≡◌, ◌≤◌, ◌<◌, ℕ, List, arith, length}
+use Rattle.std.proofs.Common.{arith}
 use Rattle.spool_log.proofs.Records.{some_record}
 use Rattle.spool_log.proofs.read.whole.Goals as goal
 

@@ -1,4 +1,4 @@
-use Rattle.std.proofs.Common.{◌≡◌, ◌+◌, ◌<◌, ◌^◌, ◌∷◌, [], List, ℕ, arith, refl, inr, sym, subst, length}
+use Rattle.std.proofs.Common.{◌+◌, ◌∷◌, [], arith, refl}
 use Rattle.spool_log.specs.Area.{LogRecord, body_of}
 use Rattle.spool_log.specs.declared.draft.Draft.{Draft}
 use Rattle.spool_log.proofs.Bytes.{ran_puts, written_then}

@@ -1,6 +1,5 @@
-use Rattle.std.proofs.Common.{◌≡◌, ◌+◌, ◌<◌, ◌^◌, ◌∷◌, [], List, ℕ, arith, refl, inl, inr, sym, subst, length, IfSome}
+use Rattle.std.proofs.Common.{arith}
 use Rattle.spool_log.specs.Area.{LogRecord}
-use Rattle.spool_log.specs.declared.log.Log.{Log}
 use Rattle.spool_log.proofs.Drafts.{append_first, append_ran, append_added, append_form}
 use Rattle.spool_log.proofs.log.Log.append.Goals as goal
 

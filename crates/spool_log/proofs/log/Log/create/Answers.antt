@@ -1,4 +1,4 @@
-use Rattle.std.proofs.Common.{◌≡◌, ◌+◌, ◌<◌, ◌^◌, ◌∷◌, [], List, ℕ, arith, refl, inl, inr, ⊎_elim, sym, subst, length, IfSome}
+use Rattle.std.proofs.Common.{[], inl, inr, ⊎_elim, subst}
 use Rattle.std.specs.Bool.{⊤}
 use Rattle.kumo_disk.specs.Calls.{Ran}
 use Rattle.kumo_disk.proofs.Runs.{ran_as}

@@ -1,7 +1,6 @@
-use Rattle.std.proofs.Common.{◌≡◌, ◌≤◌, ◌<◌, ◌∙◌, ◌≢◌, ℕ, List, arith, length, refl, subst, sym, Option, Some, None}
+use Rattle.std.proofs.Common.{arith, refl}
 use Rattle.kumo_disk.specs.Disk.{Same}
 use Rattle.kumo_disk.proofs.Runs.{ran_same}
-use Rattle.spool_log.specs.inside.Steps.{Judges}
 use Rattle.spool_log.proofs.Bytes.{ran_after}
 use Rattle.spool_log.proofs.Records.{damaged_at}
 use Rattle.spool_log.proofs.log.Log.read_record.Goals as goal
