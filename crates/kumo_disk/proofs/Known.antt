@@ -16,17 +16,17 @@ pub reads_then_at : (area : ℕ) (Q R S : List ℕ → List ℕ → Type 0) (a b
 reads_then_at area Q R S a b c both first second = reads_of area S a c
     (λ none. untold_from area R b c (untold_from area Q a b none first) second)
     (λ read is.
-        let mid = moved_from area Q a b read is first in
-        let end = moved_from area R b c mid.0 mid.1 second in
-        (end.0, end.1, record { here = both read is _ _ mid.2.here end.2.here; elsewhere = λ other differs. end.2.elsewhere other differs ∙ mid.2.elsewhere other differs }))
+    let mid = moved_from area Q a b read is first in
+    let end = moved_from area R b c mid.0 mid.1 second in
+    (end.0, end.1, record { here = both read is _ _ mid.2.here end.2.here; elsewhere = λ other differs. end.2.elsewhere other differs ∙ mid.2.elsewhere other differs }))
 
 -- another word for a move, from what a read gave
 pub reads_as_at : (area : ℕ) (Q R : List ℕ → List ℕ → Type 0) (a b : DiskSeen)
     → ((read : Image) → a.told ≡ Some read → (c : List ℕ) → Q (area_of area read) c → R (area_of area read) c) → ReadMoves area Q a b → ReadMoves area R a b
 reads_as_at area Q R a b weaker moves = reads_of area R a b (λ none. untold_from area Q a b none moves)
     (λ read is.
-        let after = moved_from area Q a b read is moves in
-        (after.0, after.1, record { here = weaker read is _ after.2.here; elsewhere = after.2.elsewhere }))
+    let after = moved_from area Q a b read is moves in
+    (after.0, after.1, record { here = weaker read is _ after.2.here; elsewhere = after.2.elsewhere }))
 
 -- the same told, the same move
 pub reads_from : (area : ℕ) (Q : List ℕ → List ℕ → Type 0) (a b c : DiskSeen) → b.told ≡ a.told → ReadMoves area Q b c → ReadMoves area Q a c
@@ -35,8 +35,8 @@ reads_from area Q a b c same moves = subst (λ (o : Option Image). MatchOption o
 pub reads_to : (area : ℕ) (Q : List ℕ → List ℕ → Type 0) (a b c : DiskSeen) → c.told ≡ b.told → ReadMoves area Q a b → ReadMoves area Q a c
 reads_to area Q a b c same moves = reads_of area Q a c (λ none. same ∙ untold_from area Q a b none moves)
     (λ read is.
-        let after = moved_from area Q a b read is moves in
-        (after.0, same ∙ after.1, after.2))
+    let after = moved_from area Q a b read is moves in
+    (after.0, same ∙ after.1, after.2))
 
 -- what is read after a move, by what it comes from
 pub told_after : (area : ℕ) (Q : List ℕ → List ℕ → Type 0) (P : List ℕ → Type 0) (a b : DiskSeen)
@@ -55,8 +55,8 @@ ran_by area A B Q R S a b c at_first then alone both first second = record {
       let was : (d : Image) → a.left a.moment d → A (area_of area d) = at_some (λ read. (d : Image) → a.left a.moment d → A (area_of area d)) a.told read is at_first in
       let now : (d : Image) → b.left b.moment d → B (area_of area d) = at_some (λ read. (d : Image) → b.left b.moment d → B (area_of area d)) b.told mid.0 mid.1 then in
       each_then area Q R S a b c first.time second.time (at_some (λ read. Each area Q a b) a.told read is first.images) (at_some (λ read. Each area R b c) b.told mid.0 mid.1 second.images)
-          (λ d before e. alone (area_of area d) e (was d before))
-          (λ d before e after q f r. both (area_of area d) (area_of area e) f (was d before) (now e after) q r));
+      (λ d before e. alone (area_of area d) e (was d before))
+      (λ d before e after q f r. both (area_of area d) (area_of area e) f (was d before) (now e after) q r));
   reads = reads_then area Any Any Any a b c (λ x y z p q. tt) first.reads second.reads;
 }
 

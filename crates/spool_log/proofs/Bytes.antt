@@ -1,12 +1,12 @@
 -- What calls of the disk do to the bytes of one area, one after the other.
-use Rattle.std.proofs.Common.{◌≡◌, ◌≢◌, ◌⊎◌, inl, inr, ℕ, zero, suc, ◌+◌, ◌≤◌, ◌<◌, min, max, List, [], ◌∷◌, ◌++◌, length, take, drop, get_or, Option, Some, None, IfSome, Result, Ok, Err, OnOk, refl, sym, ◌∙◌, subst, ap, arith}
-use Rattle.std.proofs.lemmas.List.{take_at, drop_at, take-take, drop-drop, take_all, take-append-drop, length-take-le, length-append, length-drop, append_assoc, drop_more}
+use Rattle.std.proofs.Common.{◌≡◌, ℕ, zero, suc, ◌+◌, ◌≤◌, ◌<◌, min, List, [], ◌∷◌, ◌++◌, length, take, drop, IfSome, Result, Ok, Err, OnOk, refl, sym, ◌∙◌, subst, ap, arith}
+use Rattle.std.proofs.lemmas.List.{take_at, take-take, drop-drop, take_all, length-take-le, length-append, length-drop, append_assoc}
 use Rattle.std.proofs.Math.Seq.{drop-append-add}
-use Rattle.kumo_disk.specs.Disk.{Image, area_of, DiskSeen, Lasts, Each, ReadMoves, Same, Written, with_bytes, Torn, Cut, Shortened}
+use Rattle.kumo_disk.specs.Disk.{area_of, DiskSeen, Lasts, Each, ReadMoves, Same, Written, with_bytes, Torn, Cut}
 use Rattle.kumo_disk.specs.Calls.{Ran}
 use Rattle.kumo_disk.proofs.Runs.{at_some, if_some, ran_then, ran_same, ran_write}
 use Rattle.kumo_disk.proofs.Known.{reads_then_at, told_after}
-use Rattle.spool_log.specs.inside.Steps.{KeepsFront, Flipped, Flips, StaysShort}
+use Rattle.spool_log.specs.inside.Steps.{KeepsFront, Flips, StaysShort}
 
 pub keeps_same : (k : ℕ) (d : List ℕ) → KeepsFront k d d
 keeps_same k d = λ j le short. (short, refl)
@@ -57,8 +57,8 @@ with_more old at x y within =
     let long : length p ≡ at + length x = length-append (take at old) x ∙ ap (λ (k : ℕ). k + length x) (length-take-le at old within) in
     let front : take (at + length x) (p ++ drop (at + length x) old) ≡ p = take_at p (drop (at + length x) old) (at + length x) long in
     let back : drop (at + length x + length y) (p ++ drop (at + length x) old) ≡ drop (at + length (x ++ y)) old =
-        ap (λ (k : ℕ). drop (k + length y) (p ++ drop (at + length x) old)) (sym long) ∙ drop-append-add p (drop (at + length x) old) (length y)
-        ∙ drop-drop (length y) (at + length x) old ∙ ap (λ (k : ℕ). drop k old) (omega (arith, length-append x y)) in
+    ap (λ (k : ℕ). drop (k + length y) (p ++ drop (at + length x) old)) (sym long) ∙ drop-append-add p (drop (at + length x) old) (length y)
+    ∙ drop-drop (length y) (at + length x) old ∙ ap (λ (k : ℕ). drop k old) (omega (arith, length-append x y)) in
     ap (λ (l : List ℕ). l ++ y ++ drop (at + length x + length y) (p ++ drop (at + length x) old)) front
     ∙ ap (λ (l : List ℕ). p ++ y ++ l) back
     ∙ ap (λ (l : List ℕ). l ++ drop (at + length (x ++ y)) old) (append_assoc (take at old) x y)
@@ -87,15 +87,15 @@ pub written_then : (area at k : ℕ) (x y : List ℕ) (a b c : DiskSeen) → k �
     → ReadMoves area (Written at x) a b → ReadMoves area (Written k y) b c → ReadMoves area (Written at (x ++ y)) a c
 written_then area at k x y a b c next within first second = reads_then_at area (Written at x) (Written k y) (Written at (x ++ y)) a b c
     (λ read is l m one two.
-        two ∙ ap (λ (j : ℕ). with_bytes j y l) next ∙ ap (λ (t : List ℕ). with_bytes (at + length x) y t) one
-        ∙ with_more (area_of area read) at x y (at_some (λ read. at ≤ length (area_of area read)) a.told read is within)) first second
+    two ∙ ap (λ (j : ℕ). with_bytes j y l) next ∙ ap (λ (t : List ℕ). with_bytes (at + length x) y t) one
+    ∙ with_more (area_of area read) at x y (at_some (λ read. at ≤ length (area_of area read)) a.told read is within)) first second
 
 -- there is room behind a write
 pub written_room : (area at k : ℕ) (x : List ℕ) (a b : DiskSeen) → k ≡ at + length x → IfSome a.told (λ read. at ≤ length (area_of area read))
     → ReadMoves area (Written at x) a b → IfSome b.told (λ read. k ≤ length (area_of area read))
 written_room area at k x a b next within moves = told_after area (Written at x) (λ bytes. k ≤ length bytes) a b
     (λ read is c written. subst (λ (l : List ℕ). k ≤ length l) (sym written)
-        (omega (arith, next, length_with (area_of area read) at x (at_some (λ read. at ≤ length (area_of area read)) a.told read is within)))) moves
+    (omega (arith, next, length_with (area_of area read) at x (at_some (λ read. at ≤ length (area_of area read)) a.told read is within)))) moves
 
 pub keeps_written : (area at n : ℕ) (d : DiskSeen) → IfSome d.told (λ read. (x y : List ℕ) → Torn at n (length (area_of area read)) x y → KeepsFront at x y)
 keeps_written area at n d = if_some (λ read. (x y : List ℕ) → Torn at n (length (area_of area read)) x y → KeepsFront at x y) d.told (λ read is x y torn. torn_keeps at n (length (area_of area read)) x y torn)

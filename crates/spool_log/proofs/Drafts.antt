@@ -1,22 +1,20 @@
 -- What a draft's calls leave of its area, and what a log's do.
-use Rattle.std.proofs.Common.{◌≡◌, ◌≢◌, ◌⊎◌, inl, inr, ⊎_elim, Bool, true, false, ◌==◌, ℕ, ◌+◌, ◌≤◌, ◌<◌, ◌^◌, List, [], ◌∷◌, ◌++◌, length, take, drop, get_or, Option, Some, None, IfSome, refl, sym, ◌∙◌, subst, ap, arith}
+use Rattle.std.proofs.Common.{◌≡◌, ◌≢◌, inl, inr, Bool, true, false, ◌==◌, ℕ, ◌+◌, ◌≤◌, ◌<◌, ◌^◌, List, [], ◌∷◌, ◌++◌, length, get_or, Some, IfSome, sym, ◌∙◌, subst, ap, arith}
 use Rattle.std.specs.Bool.{⊤}
 use Rattle.std.proofs.lemmas.Bool.Decides.{nat_tests}
 use Rattle.std.proofs.lemmas.List.{append_assoc, length-append}
-use Rattle.kumo_disk.specs.Disk.{Image, area_of, DiskSeen, Lasts, Each, ReadMoves, IsDurable, Same, Any, Written, with_bytes, Cut}
+use Rattle.kumo_disk.specs.Disk.{Image, area_of, DiskSeen, ReadMoves, IsDurable, Same, Written, with_bytes, Cut}
 use Rattle.kumo_disk.specs.Calls.{Ran}
-use Rattle.kumo_disk.proofs.Runs.{at_some, if_some, ran_as, ran_then, ran_known, reads_then}
-use Rattle.kumo_disk.proofs.Known.{AllLeft, ran_by, left_after, left_durable, left_any, told_after, reads_then_at, reads_as_at}
+use Rattle.kumo_disk.proofs.Runs.{at_some, if_some, ran_as, ran_known, reads_then}
+use Rattle.kumo_disk.proofs.Known.{AllLeft, ran_by, left_after, left_durable, left_any, told_after, reads_as_at}
 use Rattle.spool_log.specs.declared.head.Header.{Header}
-use Rattle.spool_log.specs.declared.head.Start.TheVariants.{Blank}
 use Rattle.spool_log.specs.declared.draft.Draft.{Draft}
-use Rattle.spool_log.specs.declared.log.Log.{Log}
-use Rattle.spool_log.specs.Area.{LogRecord, body_of, bytes_of, bytes_of_all, header_of, header_rest, IsVersion, AreSmall, Form, IsForm, Adds, Added}
-use Rattle.spool_log.specs.Head.{start_of, Clears, StartsShut}
-use Rattle.spool_log.specs.Log.{IsReady, IsDraft, Creates, BeginsBlank, StaysShut, Opens}
+use Rattle.spool_log.specs.Area.{LogRecord, body_of, bytes_of, bytes_of_all, header_rest, Form, IsForm, Adds, Added}
+use Rattle.spool_log.specs.Head.{Clears, StartsShut}
+use Rattle.spool_log.specs.Log.{IsDraft, BeginsBlank, StaysShut, Opens}
 use Rattle.spool_log.specs.inside.Steps.{KeepsFront, Flips, StaysShort, Becomes}
-use Rattle.spool_log.proofs.Bytes.{written_then, with_at_end}
-use Rattle.spool_log.proofs.Forms.{bytes-push, small-push, keeps_adds, flips_adds, opens_adds, blank_short, blank_shut, blank_gate, keeps_shut, flips_opens, written_opens, cut_blank, flips_clears}
+use Rattle.spool_log.proofs.Bytes.{with_at_end}
+use Rattle.spool_log.proofs.Forms.{bytes-push, small-push, keeps_adds, flips_adds, opens_adds, blank_short, blank_shut, keeps_shut, flips_opens, written_opens, cut_blank, flips_clears}
 
 -- an area of at most one byte became one closed gate
 module _ (area : ℕ) (a b c : DiskSeen) (durable : IsDurable area a) (short : IfSome a.told (λ read. length (area_of area read) ≤ 1))
@@ -39,7 +37,7 @@ module _ (area : ℕ) (a b c : DiskSeen) (durable : IsDurable area a) (short : I
   pub begin_bytes : (h : Header) → ReadMoves area (Written 1 (header_rest h)) b c → IfSome c.told (λ read. area_of area read ≡ 0 ∷ header_rest h ++ bytes_of_all [])
   begin_bytes h written = told_after area (λ old new. new ≡ 0 ∷ header_rest h ++ bytes_of_all []) (λ bytes. bytes ≡ 0 ∷ header_rest h ++ bytes_of_all []) a c (λ read is l becomes. becomes)
       (reads_then area (Becomes (0 ∷ [])) (Written 1 (header_rest h)) (λ old new. new ≡ 0 ∷ header_rest h ++ bytes_of_all []) a b c
-          (λ x y z is wrote. wrote ∙ ap (λ (l : List ℕ). with_bytes 1 (header_rest h) l) is) made written)
+      (λ x y z is wrote. wrote ∙ ap (λ (l : List ℕ). with_bytes 1 (header_rest h) l) is) made written)
 
 pub begin_only : (area : ℕ) (a b : DiskSeen) → Ran area StaysShort a b → Ran area BeginsBlank a b
 begin_only area a b ran = ran_as area StaysShort BeginsBlank a b (λ x y stays. λ is. blank_short y (stays is)) ran
@@ -75,9 +73,9 @@ module _ (draft : Draft) (rs : List LogRecord) (a : DiskSeen) (is : IsDraft draf
     ends = omega (arith, is.ends, ap length (bytes-push rs r), length-append (bytes_of_all rs) (bytes_of r));
     bytes = told_after draft.area (Written draft.end (bytes_of r)) (λ bytes. bytes ≡ 0 ∷ header_rest draft.header ++ bytes_of_all (rs ++ r ∷ [])) a b
         (λ read told l wrote.
-            let before : area_of draft.area read ≡ 0 ∷ header_rest draft.header ++ bytes_of_all rs = at_some (λ read. area_of draft.area read ≡ 0 ∷ header_rest draft.header ++ bytes_of_all rs) a.told read told is.bytes in
-            wrote ∙ with_at_end (area_of draft.area read) (bytes_of r) draft.end (told_long read told) ∙ ap (λ (l : List ℕ). l ++ bytes_of r) before
-            ∙ append_assoc (0 ∷ header_rest draft.header) (bytes_of_all rs) (bytes_of r) ∙ ap (λ (l : List ℕ). (0 ∷ header_rest draft.header) ++ l) (sym (bytes-push rs r))) written;
+        let before : area_of draft.area read ≡ 0 ∷ header_rest draft.header ++ bytes_of_all rs = at_some (λ read. area_of draft.area read ≡ 0 ∷ header_rest draft.header ++ bytes_of_all rs) a.told read told is.bytes in
+        wrote ∙ with_at_end (area_of draft.area read) (bytes_of r) draft.end (told_long read told) ∙ ap (λ (l : List ℕ). l ++ bytes_of r) before
+        ∙ append_assoc (0 ∷ header_rest draft.header) (bytes_of_all rs) (bytes_of r) ∙ ap (λ (l : List ℕ). (0 ∷ header_rest draft.header) ++ l) (sym (bytes-push rs r))) written;
     shut = left_after draft.area StartsShut StartsShut StaysShut a b is.shut (λ x y shut stays. stays shut) (push_ran b ran);
   }
 
@@ -93,8 +91,8 @@ module _ (draft : Draft) (rs : List LogRecord) (a : DiskSeen) (is : IsDraft draf
     unfolding drafted
     is_drafted = reads_as_at draft.area (Written draft.end (0 ∷ [])) (λ old new. new ≡ drafted) a b
         (λ read told l wrote.
-            let before : area_of draft.area read ≡ 0 ∷ header_rest draft.header ++ bytes_of_all rs = at_some (λ read. area_of draft.area read ≡ 0 ∷ header_rest draft.header ++ bytes_of_all rs) a.told read told is.bytes in
-            wrote ∙ with_at_end (area_of draft.area read) (0 ∷ []) draft.end (told_long read told) ∙ ap (λ (l : List ℕ). l ++ 0 ∷ []) before) written
+        let before : area_of draft.area read ≡ 0 ∷ header_rest draft.header ++ bytes_of_all rs = at_some (λ read. area_of draft.area read ≡ 0 ∷ header_rest draft.header ++ bytes_of_all rs) a.told read told is.bytes in
+        wrote ∙ with_at_end (area_of draft.area read) (0 ∷ []) draft.end (told_long read told) ∙ ap (λ (l : List ℕ). l ++ 0 ∷ []) before) written
 
     pub open_ran : (c : DiskSeen) → IsDurable draft.area b → Ran draft.area (KeepsFront draft.end) a b → Ran draft.area (Flips 0) b c → Ran draft.area (Opens draft.header rs draft.end) a c
     unfolding drafted
@@ -123,8 +121,8 @@ module _ (h : Header) (area end : ℕ) (r : LogRecord) (small : length r.payload
   pub append_form : IfSome a.told (λ read. IsForm h end (area_of area read)) → ReadMoves area (Added h end (end + (6 + length r.payload)) r) a c → IfSome c.told (λ read. IsForm h (end + (6 + length r.payload)) (area_of area read))
   append_form form added = told_after area (Added h end (end + (6 + length r.payload)) r) (IsForm h (end + (6 + length r.payload))) a c
       (λ read told l add.
-          let was : IsForm h end (area_of area read) = at_some (λ read. IsForm h end (area_of area read)) a.told read told form in
-          (was.0 ++ r ∷ [], add was.0 was.1)) added
+      let was : IsForm h end (area_of area read) = at_some (λ read. IsForm h end (area_of area read)) a.told read told form in
+      (was.0 ++ r ∷ [], add was.0 was.1)) added
 
 pub append_first : (h : Header) (area end : ℕ) (r : LogRecord) → length r.payload < 2 ^ 32 → (a b : DiskSeen) → Ran area (KeepsFront (end + 1)) a b → Ran area (Adds h end r) a b
 append_first h area end r small a b ran = ran_as area (KeepsFront (end + 1)) (Adds h end r) a b (keeps_adds h end r small) ran

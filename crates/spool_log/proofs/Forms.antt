@@ -1,17 +1,15 @@
 -- The form of an area under the steps of a log.
-use Rattle.std.proofs.Common.{◌≡◌, ◌≢◌, ◌⊎◌, inl, inr, ℕ, zero, suc, ◌+◌, ◌≤◌, ◌<◌, ◌^◌, List, [], ◌∷◌, ◌++◌, length, take, drop, get_or, Bool, true, false, ◌==◌, refl, sym, ◌∙◌, subst, ap, arith, cond}
-use Rattle.std.specs.Bool.{⊤}
+use Rattle.std.proofs.Common.{◌≡◌, ◌≢◌, ◌⊎◌, inl, inr, ℕ, ◌+◌, ◌≤◌, ◌<◌, ◌^◌, List, [], ◌∷◌, ◌++◌, length, take, drop, get_or, Bool, false, ◌==◌, refl, sym, ◌∙◌, ap, arith, cond}
 use Rattle.std.proofs.lemmas.Bool.{cases_eq}
 use Rattle.std.proofs.lemmas.Bool.Decides.{nat_tests}
-use Rattle.std.proofs.lemmas.List.{take_at, drop_at, take-append-drop, length-append, append_assoc, drop_more, length-drop}
-use Rattle.kumo_disk.specs.Disk.{with_bytes, Written, Cut}
+use Rattle.std.proofs.lemmas.List.{take_at, drop_at, take-append-drop, length-append, append_assoc, drop_more}
+use Rattle.kumo_disk.specs.Disk.{Written, Cut}
 use Rattle.spool_log.specs.declared.head.Header.{Header}
-use Rattle.spool_log.specs.declared.head.Start.{Start}
-use Rattle.spool_log.specs.declared.head.Start.TheVariants.{Blank, Wrong, Headed}
-use Rattle.spool_log.specs.Area.{LogRecord, body_of, bytes_of, bytes_of_all, header_of, header_rest, IsVersion, AreSmall, Form, Adds, Added, IsForm}
-use Rattle.spool_log.specs.Head.{start_of, is_open, by_magic, first_wrong, magic, version_in, Clears, StartsShut}
-use Rattle.spool_log.specs.Log.{Creates, BeginsBlank, StaysShut, Opens}
-use Rattle.spool_log.specs.inside.Steps.{KeepsFront, Flipped, Flips, StaysShort}
+use Rattle.spool_log.specs.declared.head.Start.TheVariants.{Blank}
+use Rattle.spool_log.specs.Area.{LogRecord, body_of, bytes_of, bytes_of_all, header_of, header_rest, IsVersion, AreSmall, Form, Adds, Added}
+use Rattle.spool_log.specs.Head.{start_of, by_magic, first_wrong, magic, version_in, Clears, StartsShut}
+use Rattle.spool_log.specs.Log.{StaysShut}
+use Rattle.spool_log.specs.inside.Steps.{KeepsFront, Flipped, Flips}
 
 pub bytes-push : (rs : List LogRecord) (r : LogRecord) → bytes_of_all (rs ++ r ∷ []) ≡ bytes_of_all rs ++ bytes_of r
 bytes-push [] r = nothing (bytes_of r)
@@ -123,7 +121,7 @@ module _ (h : Header) (rs : List LogRecord) (end : ℕ) where
         let before : take end f ≡ front = flip.before ∙ ap (λ (l : List ℕ). take end l) s.split ∙ take_at front (s.gate ∷ back) end (sym s.ends) in
         let whole : c ≡ (front ++ s.gate ∷ []) ++ back = s.split ∙ sym (append_assoc front (s.gate ∷ []) back) in
         let after : drop (end + 1) f ≡ back = flip.after ∙ ap (λ (l : List ℕ). drop (end + 1) l) whole
-            ∙ drop_at (front ++ s.gate ∷ []) back (end + 1) (omega (arith, s.ends, length-append front (s.gate ∷ []))) in
+        ∙ drop_at (front ++ s.gate ∷ []) back (end + 1) (omega (arith, s.ends, length-append front (s.gate ∷ []))) in
         sym (take-append-drop end f) ∙ ap (λ (l : List ℕ). l ++ drop end f) before
         ∙ ap (λ (l : List ℕ). front ++ l) (drop_more f end 0 (omega (arith, within, flip.long)) ∙ ap (λ (l : List ℕ). get_or f end 0 ∷ l) after)
 
@@ -143,7 +141,7 @@ module _ (h : Header) (rs : List LogRecord) (end : ℕ) where
         let whole : c ≡ (front ++ s.gate ∷ []) ++ back = s.split ∙ sym (append_assoc front (s.gate ∷ []) back) in
         let before : take end c ≡ front = ap (λ (l : List ℕ). take end l) s.split ∙ take_at front (s.gate ∷ back) end (sym s.ends) in
         let after : drop (end + 1) c ≡ back = ap (λ (l : List ℕ). drop (end + 1) l) whole
-            ∙ drop_at (front ++ s.gate ∷ []) back (end + 1) (omega (arith, s.ends, length-append front (s.gate ∷ []))) in
+        ∙ drop_at (front ++ s.gate ∷ []) back (end + 1) (omega (arith, s.ends, length-append front (s.gate ∷ []))) in
         opened c s f (written ∙ ap (λ (l : List ℕ). l ++ 1 ∷ [] ++ drop (end + 1) c) before ∙ ap (λ (l : List ℕ). front ++ 1 ∷ [] ++ l) after ∙ append_assoc front (1 ∷ []) back)
 
 -- an append in two steps: the record behind the closed gate, then the gate

@@ -1,19 +1,18 @@
 -- What the first bytes of an area tell.
-use Rattle.std.proofs.Common.{◌≡◌, ◌≢◌, ◌⊎◌, inl, inr, ℕ, zero, suc, ◌+◌, ◌≤◌, ◌<◌, ◌^◌, ◌==◌, List, [], ◌∷◌, ◌++◌, length, take, drop, get_or, Bool, true, false, nat_lt, Option, Some, None, IfSome, refl, sym, ◌∙◌, subst, ap, arith, cond}
-use Rattle.std.specs.Bool.{⊤}
+use Rattle.std.proofs.Common.{◌≡◌, inl, inr, ℕ, zero, suc, ◌+◌, ◌≤◌, ◌<◌, ◌==◌, List, [], ◌∷◌, ◌++◌, length, take, drop, get_or, Bool, true, false, Option, Some, None, IfSome, refl, sym, ◌∙◌, subst, ap, arith, cond}
 use Rattle.std.specs.Int.{from_be_bytes, to_be_bytes, w64}
 use Rattle.std.proofs.Math.Seq.{take-add}
 use Rattle.std.proofs.lemmas.Bool.{cases_lt}
 use Rattle.std.proofs.lemmas.Bool.Decides.{nat_tests}
 use Rattle.std.proofs.lemmas.Nat.{be_bytes_8}
 use Rattle.std.proofs.lemmas.List.{take-take, drop-take, take_all, length-take-le, length-drop, get_or-drop}
-use Rattle.kumo_disk.specs.Disk.{Image, area_of, DiskSeen, Places}
+use Rattle.kumo_disk.specs.Disk.{area_of, DiskSeen, Places}
 use Rattle.kumo_disk.proofs.Runs.{at_some, if_some}
 use Rattle.spool_log.specs.declared.head.Header.{Header}
 use Rattle.spool_log.specs.declared.head.Start.{Start}
 use Rattle.spool_log.specs.declared.head.Start.TheVariants.{Blank, Wrong, Headed}
-use Rattle.spool_log.specs.Area.{header_of, header_rest}
-use Rattle.spool_log.specs.Head.{version_by, version_in, magic, first_wrong, generation_in, header_in, is_open, by_length, by_magic, start_of}
+use Rattle.spool_log.specs.Area.{header_of}
+use Rattle.spool_log.specs.Head.{version_by, version_in, magic, first_wrong, generation_in, header_in, by_length, by_magic, start_of}
 use Rattle.spool_log.specs.inside.Steps.{SaysFront}
 
 get_or_front : (k : ℕ) (l : List ℕ) (i : ℕ) → i < k → get_or (take k l) i 0 ≡ get_or l i 0
@@ -72,7 +71,7 @@ start_long (a ∷ []) le = refl
 start_long (a ∷ b ∷ bytes) le =
     let version : version_in (take 17 (a ∷ b ∷ bytes)) ≡ version_in (a ∷ b ∷ bytes) = version_front (a ∷ b ∷ bytes) in
     let wrong : first_wrong (magic (version_in (take 17 (a ∷ b ∷ bytes)))) 1 (take 16 (b ∷ bytes)) ≡ first_wrong (magic (version_in (a ∷ b ∷ bytes))) 1 (b ∷ bytes) =
-        ap (λ (v : ℕ). first_wrong (magic v) 1 (take 16 (b ∷ bytes))) version ∙ first_wrong_front (magic (version_in (a ∷ b ∷ bytes))) 16 1 (b ∷ bytes) (omega arith) in
+    ap (λ (v : ℕ). first_wrong (magic v) 1 (take 16 (b ∷ bytes))) version ∙ first_wrong_front (magic (version_in (a ∷ b ∷ bytes))) 16 1 (b ∷ bytes) (omega arith) in
     ap (λ (s : Start). cond (a == 1) s Blank) (by_magic_front _ _ (take 17 (a ∷ b ∷ bytes)) (a ∷ b ∷ bytes) wrong (by_length_front (a ∷ b ∷ bytes) le))
 
 -- what was read of the first bytes tells it

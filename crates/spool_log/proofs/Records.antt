@@ -1,11 +1,11 @@
 -- What six bytes that were read at an offset tell of the record there.
-use Rattle.std.proofs.Common.{◌≡◌, ◌≢◌, ◌⊎◌, inl, inr, ℕ, zero, suc, ◌+◌, ◌-◌, ◌≤◌, ◌<◌, ◌^◌, List, [], ◌∷◌, ◌++◌, length, take, drop, get_or, Option, Some, None, IfSome, MatchOption, refl, sym, ◌∙◌, subst, ap, arith}
+use Rattle.std.proofs.Common.{◌≡◌, ℕ, zero, suc, ◌+◌, ◌-◌, ◌≤◌, ◌<◌, ◌^◌, List, [], ◌∷◌, ◌++◌, length, take, drop, get_or, None, IfSome, refl, sym, ◌∙◌, ap, arith}
 use Rattle.std.specs.Int.{from_be_bytes, to_be_bytes, w32}
 use Rattle.std.proofs.lemmas.Nat.{be_bytes_4}
-use Rattle.std.proofs.lemmas.List.{take_at, take-append-drop, take_all, length-take-le, length-drop, length-append, get_or-drop, append_assoc, drop_more, drop-drop}
-use Rattle.kumo_disk.specs.Disk.{Image, area_of, DiskSeen, Places}
+use Rattle.std.proofs.lemmas.List.{take-append-drop, take_all, length-take-le, length-drop, get_or-drop, drop_more, drop-drop}
+use Rattle.kumo_disk.specs.Disk.{area_of, DiskSeen, Places}
 use Rattle.kumo_disk.proofs.Runs.{at_some, if_some}
-use Rattle.spool_log.specs.Area.{LogRecord, body_of, bytes_of, RecordAt, NoRecordAt, IsDamaged}
+use Rattle.spool_log.specs.Area.{RecordAt, IsDamaged}
 use Rattle.spool_log.specs.inside.Steps.{size_in, HasRecord, Judges}
 
 -- a record's bytes are a head of six and the payload
@@ -16,7 +16,7 @@ record_split x kind a b c d size rest one is bytes room small area at split =
     let long : length payload ≡ size = length-take-le size rest (omega (arith, room)) in
     let head : to_be_bytes w32 size ≡ a ∷ b ∷ c ∷ d ∷ [] = be_bytes_4 (a ∷ b ∷ c ∷ d ∷ []) size refl bytes is in
     let back : rest ≡ payload ++ get_or rest size 0 ∷ drop (size + 1) rest =
-        sym (take-append-drop size rest) ∙ ap (λ (l : List ℕ). payload ++ l) (drop_more rest size 0 (omega (arith, room))) in
+    sym (take-append-drop size rest) ∙ ap (λ (l : List ℕ). payload ++ l) (drop_more rest size 0 (omega (arith, room))) in
     record {
       gate = get_or rest size 0;
       rest = drop (size + 1) rest;

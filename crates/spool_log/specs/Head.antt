@@ -1,5 +1,5 @@
 -- What the first 17 bytes of an area say.
-use Rattle.std.specs.Prelude.{◌≡◌, ◌≢◌, ◌⊎◌, ℕ, ◌+◌, ◌≤◌, List, [], ◌∷◌, length, take, drop, Bool, true, false, Option, Some, None, nat_lt, if◌then◌else◌, ◌==◌}
+use Rattle.std.specs.Prelude.{◌≡◌, ◌≢◌, ◌⊎◌, ℕ, ◌+◌, ◌≤◌, List, [], ◌∷◌, length, take, drop, Bool, false, Option, Some, None, nat_lt, if◌then◌else◌, ◌==◌}
 use Rattle.std.proofs.Common.{get_or}
 use Rattle.std.specs.Int.{from_be_bytes, w64}
 use Rattle.spool_log.specs.declared.head.Header.{Header}

@@ -33,7 +33,10 @@ impl Draft {
         ensures ran { Ran area BeginsBlank (D.seen disk.old) (D.seen disk.new) }
         ensures draft { IfOk result (λ draft. IsDraft draft [] (D.seen disk.new)) }
         ensures made { IfOk result (λ draft. draft ≡ record {
-            area = area; header = record { version = 2; generation = generation }; end = 16 }) }
+          area = area;
+          header = record { version = 2; generation = generation };
+          end = 16;
+        }) }
         ensures cause { HasCause (D.seen disk.old).faults (D.seen disk.new).faults result }
     {
         empty(disk, area)?;
@@ -57,7 +60,10 @@ impl Draft {
         ensures draft { (rs : List LogRecord) → IsDraft self.old rs (D.seen disk.old)
             → OnOk result (IsDraft self.new (rs ++ record { kind = kind; payload = payload.now } ∷ []) (D.seen disk.new)) }
         ensures next { OnOk result (self.new ≡ record {
-            area = self.old.area; header = self.old.header; end = self.old.end + (6 + length payload.now) }) }
+          area = self.old.area;
+          header = self.old.header;
+          end = self.old.end + (6 + length payload.now);
+        }) }
         ensures cause { HasCause (D.seen disk.old).faults (D.seen disk.new).faults result }
     {
         put(disk, self.area, self.end, &[1])?;

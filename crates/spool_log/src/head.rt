@@ -26,6 +26,7 @@ pub enum Start {
 
 // Bytes 1 to 7 of a version.
 const MAGIC_1: [u8; 7] = [75, 83, 80, 1, 0, 0, 0];
+
 const MAGIC_2: [u8; 7] = [75, 83, 80, 2, 0, 0, 0];
 
 /// What the first bytes of an area say; 17 of them are enough.

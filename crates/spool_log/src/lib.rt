@@ -6,14 +6,14 @@
 #![tactic(auto)]
 
 mod calls;
-mod emptying;
 mod draft;
+mod emptying;
 mod head;
 mod log;
 mod read;
 
-pub use emptying::clear;
 pub use draft::Draft;
+pub use emptying::clear;
 pub use head::{Header, Start};
 pub use log::{Found, Log};
 pub use read::{LogFault, Step};

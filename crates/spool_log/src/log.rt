@@ -73,7 +73,10 @@ impl Log {
             (D.seen disk.old) (D.seen disk.new)) }
         ensures ready { IfOk result (λ log. IsReady log (D.seen disk.new)) }
         ensures log { IfOk result (λ log. log ≡ record {
-            area = area; header = record { version = 2; generation = generation }; end = 16 }) }
+          area = area;
+          header = record { version = 2; generation = generation };
+          end = 16;
+        }) }
         ensures cause { HasCause (D.seen disk.old).faults (D.seen disk.new).faults result }
     {
         let draft = Draft::begin(disk, area, generation)?;
@@ -81,12 +84,7 @@ impl Log {
     }
 
     /// Adds a record. At `Ok` it is on the disk. After `Failed` the count of faults has risen, and the log is not used again.
-    pub fn append<D: Disk>(
-        &mut self,
-        disk: &mut D,
-        kind: u8,
-        payload: &[u8],
-    ) -> Result<(), Failed>
+    pub fn append<D: Disk>(&mut self, disk: &mut D, kind: u8, payload: &[u8]) -> Result<(), Failed>
         requires ready { IsReady self.old (D.seen disk.old) }
         requires size { length payload.now < 2 ^ 32 }
         ensures ran { Ran self.old.area (Adds self.old.header self.old.end (record { kind = kind; payload = payload.now }))
@@ -96,7 +94,10 @@ impl Log {
             (D.seen disk.old) (D.seen disk.new)) }
         ensures ready { OnOk result (IsReady self.new (D.seen disk.new)) }
         ensures next { OnOk result (self.new ≡ record {
-            area = self.old.area; header = self.old.header; end = self.old.end + (6 + length payload.now) }) }
+          area = self.old.area;
+          header = self.old.header;
+          end = self.old.end + (6 + length payload.now);
+        }) }
         ensures cause { HasCause (D.seen disk.old).faults (D.seen disk.new).faults result }
     {
         stage(disk, self.area, self.end + 1, kind, payload)?;

@@ -1,10 +1,9 @@
 -- What one or two calls of the disk do to the bytes of an area.
-use Rattle.std.specs.Prelude.{◌≡◌, ◌≢◌, ◌⊎◌, ℕ, ◌+◌, ◌<◌, ◌≤◌, ◌^◌, List, length, take, drop, Option, Some, None, IfSome, MatchOption, ⊤}
+use Rattle.std.specs.Prelude.{◌≡◌, ℕ, ◌+◌, ◌<◌, ◌≤◌, ◌^◌, List, length, take, drop, Option, MatchOption, ⊤}
 use Rattle.std.proofs.Common.{get_or}
 use Rattle.std.specs.Int.{from_be_bytes, w32}
-use Rattle.kumo_disk.specs.Disk.{Image, area_of, DiskSeen, Places}
-use Rattle.spool_log.specs.Area.{LogRecord, header_of, RecordAt, NoRecordAt}
-use Rattle.spool_log.specs.Head.{first_wrong, magic}
+use Rattle.kumo_disk.specs.Disk.{Places}
+use Rattle.spool_log.specs.Area.{header_of, RecordAt, NoRecordAt}
 use Rattle.spool_log.specs.declared.read.LogFault.{LogFault}
 use Rattle.spool_log.specs.declared.read.LogFault.TheVariants as fault
 use Rattle.spool_log.specs.declared.head.Start.{Start}

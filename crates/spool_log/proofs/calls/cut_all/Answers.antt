@@ -1,4 +1,3 @@
-use Rattle.std.proofs.Common.{◌≡◌, ◌≤◌, ◌<◌, ◌+◌, ◌++◌, [], ◌∷◌, length, List, ℕ, arith, ap, sym, ◌∙◌, subst, refl}
 use Rattle.kumo_disk.specs.Disk.{Cut}
 use Rattle.kumo_disk.proofs.Runs.{ran_cut}
 use Rattle.spool_log.proofs.calls.cut_all.Goals as goal

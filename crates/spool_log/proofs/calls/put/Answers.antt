@@ -1,4 +1,4 @@
-use Rattle.std.proofs.Common.{◌≡◌, ◌≤◌, ◌<◌, ◌+◌, ◌++◌, [], ◌∷◌, length, List, ℕ, arith, ap, sym, ◌∙◌, subst, refl}
+use Rattle.std.proofs.Common.{length}
 use Rattle.spool_log.proofs.calls.put.Goals as goal
 use Rattle.spool_log.proofs.Bytes.{ran_put}
 

@@ -1,4 +1,3 @@
-use Rattle.std.proofs.Common.{◌≡◌, ◌≤◌, ◌<◌, ◌+◌, ◌++◌, [], ◌∷◌, length, List, ℕ, arith, ap, sym, ◌∙◌, subst, refl}
 use Rattle.spool_log.proofs.calls.put_gate.Goals as goal
 use Rattle.spool_log.proofs.Bytes.{ran_put, ran_synced}
 use Rattle.spool_log.specs.inside.Steps.{KeepsFront}

@@ -1,5 +1,5 @@
-use Rattle.std.proofs.Common.{◌≡◌, ◌+◌, ◌<◌, ◌^◌, ◌∷◌, [], List, ℕ, arith, refl, inl, inr, sym, subst, length, IfSome, ◌∙◌}
-use Rattle.kumo_disk.specs.Disk.{Same, IsDurable}
+use Rattle.std.proofs.Common.{arith, refl, ◌∙◌}
+use Rattle.kumo_disk.specs.Disk.{Same}
 use Rattle.kumo_disk.proofs.Runs.{ran_same, durable_stays}
 use Rattle.spool_log.proofs.Bytes.{ran_after}
 use Rattle.spool_log.proofs.Drafts.{clears_same, clears_shut, clears_cut, gate_written, gate_open, gate_shut_read}
@@ -19,8 +19,8 @@ returns-in_err-set_gate-clause-ran g c =
     let o = g.D.Disk.seen c.gate_is_open.new.disk in
     let first = ran_after c.args.area Same a l o (λ d. refl) (ran_same c.args.area a l c.length.ensures.time c.length.ensures.images c.length.ensures.same) c.gate_is_open.ensures.ran in
     clears_shut c.args.area a o (g.D.Disk.seen c.set_gate.new.disk) first (durable_stays c.args.area a o (c.gate_is_open.ensures.same ∙ c.length.ensures.same) first c.requires.durable)
-        (gate_open c.args.area c.in_ok-long.long c.in_ok-gate_is_open.field-0 a l o c.length.ensures.same c.gate_is_open.ensures.same c.in_ok-long.ensures.value c.in_ok-gate_is_open.ensures.gate (omega (arith, c.if-long-le1.false)) c.if-branch.true)
-        c.set_gate.ensures.ran
+    (gate_open c.args.area c.in_ok-long.long c.in_ok-gate_is_open.field-0 a l o c.length.ensures.same c.gate_is_open.ensures.same c.in_ok-long.ensures.value c.in_ok-gate_is_open.ensures.gate (omega (arith, c.if-long-le1.false)) c.if-branch.true)
+    c.set_gate.ensures.ran
 
 pub returns-then-branch-clause-ran : goal.returns-then-branch-clause-ran
 returns-then-branch-clause-ran g c =
@@ -30,10 +30,10 @@ returns-then-branch-clause-ran g c =
     let s = g.D.Disk.seen c.set_gate.new.disk in
     let first = ran_after c.args.area Same a l o (λ d. refl) (ran_same c.args.area a l c.length.ensures.time c.length.ensures.images c.length.ensures.same) c.gate_is_open.ensures.ran in
     clears_cut c.args.area a s (g.D.Disk.seen c.cut_all.new.disk)
-        (clears_shut c.args.area a o s first (durable_stays c.args.area a o (c.gate_is_open.ensures.same ∙ c.length.ensures.same) first c.requires.durable)
-            (gate_open c.args.area c.in_ok-long.long c.in_ok-gate_is_open.field-0 a l o c.length.ensures.same c.gate_is_open.ensures.same c.in_ok-long.ensures.value c.in_ok-gate_is_open.ensures.gate (omega (arith, c.if-long-le1.false)) c.if-branch.true)
-            c.set_gate.ensures.ran)
-        c.in_ok-set_gate.ensures.durable (gate_written c.args.area a o s c.in_ok-set_gate.ensures.written) c.cut_all.ensures.ran
+    (clears_shut c.args.area a o s first (durable_stays c.args.area a o (c.gate_is_open.ensures.same ∙ c.length.ensures.same) first c.requires.durable)
+    (gate_open c.args.area c.in_ok-long.long c.in_ok-gate_is_open.field-0 a l o c.length.ensures.same c.gate_is_open.ensures.same c.in_ok-long.ensures.value c.in_ok-gate_is_open.ensures.gate (omega (arith, c.if-long-le1.false)) c.if-branch.true)
+    c.set_gate.ensures.ran)
+    c.in_ok-set_gate.ensures.durable (gate_written c.args.area a o s c.in_ok-set_gate.ensures.written) c.cut_all.ensures.ran
 
 pub returns-clause-ran : goal.returns-clause-ran
 returns-clause-ran g c =
@@ -42,6 +42,6 @@ returns-clause-ran g c =
     let o = g.D.Disk.seen c.gate_is_open.new.disk in
     let first = ran_after c.args.area Same a l o (λ d. refl) (ran_same c.args.area a l c.length.ensures.time c.length.ensures.images c.length.ensures.same) c.gate_is_open.ensures.ran in
     clears_cut c.args.area a o (g.D.Disk.seen c.cut_all-2.new.disk) (clears_same c.args.area a o o first)
-        (durable_stays c.args.area a o (c.gate_is_open.ensures.same ∙ c.length.ensures.same) first c.requires.durable)
-        (gate_shut_read c.args.area c.in_ok-long.long c.in_ok-gate_is_open.field-0 a l o c.length.ensures.same c.gate_is_open.ensures.same c.in_ok-long.ensures.value c.in_ok-gate_is_open.ensures.gate c.if-branch.false)
-        c.cut_all-2.ensures.ran
+    (durable_stays c.args.area a o (c.gate_is_open.ensures.same ∙ c.length.ensures.same) first c.requires.durable)
+    (gate_shut_read c.args.area c.in_ok-long.long c.in_ok-gate_is_open.field-0 a l o c.length.ensures.same c.gate_is_open.ensures.same c.in_ok-long.ensures.value c.in_ok-gate_is_open.ensures.gate c.if-branch.false)
+    c.cut_all-2.ensures.ran

@@ -1,4 +1,4 @@
-use Rattle.std.proofs.Common.{◌≡◌, sym, subst, arith}
+use Rattle.std.proofs.Common.{sym, subst, arith}
 use Rattle.spool_log.specs.declared.head.Start.{Start}
 use Rattle.spool_log.specs.inside.Steps.{SaysFront}
 use Rattle.spool_log.proofs.Headers.{says_front}

@@ -1,6 +1,5 @@
-use Rattle.std.proofs.Common.{◌≡◌, ◌+◌, ◌<◌, ◌^◌, ◌∷◌, [], List, ℕ, arith, refl, inr, sym, subst, length}
+use Rattle.std.proofs.Common.{List, ℕ, arith, refl, inr, subst}
 use Rattle.kumo_disk.specs.Disk.{ReadMoves, Written}
-use Rattle.spool_log.specs.Area.{header_rest}
 use Rattle.spool_log.specs.declared.head.Header.{Header}
 use Rattle.spool_log.proofs.Drafts.{begin_ran, begin_shut, begin_bytes, begin_only}
 use Rattle.spool_log.proofs.draft.Draft.begin.Goals as goal

@@ -1,5 +1,4 @@
-use Rattle.std.proofs.Common.{◌≡◌, ◌+◌, ◌<◌, ◌^◌, ◌∷◌, [], List, ℕ, arith, refl, inr, sym, subst, length, IfSome}
-use Rattle.kumo_disk.specs.Disk.{area_of}
+use Rattle.std.proofs.Common.{List}
 use Rattle.kumo_disk.proofs.Known.{told_after}
 use Rattle.spool_log.specs.Area.{LogRecord, Form, IsForm}
 use Rattle.spool_log.specs.declared.draft.Draft.{Draft}

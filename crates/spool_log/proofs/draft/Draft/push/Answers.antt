@@ -1,4 +1,4 @@
-use Rattle.std.proofs.Common.{◌≡◌, ◌+◌, ◌<◌, ◌^◌, ◌∷◌, [], List, ℕ, arith, refl, inr, sym, subst, length}
+use Rattle.std.proofs.Common.{◌+◌, ◌∷◌, [], arith, refl}
 use Rattle.spool_log.specs.Area.{LogRecord, body_of}
 use Rattle.spool_log.specs.declared.draft.Draft.{Draft}
 use Rattle.spool_log.proofs.Bytes.{ran_puts, written_then}
@@ -21,6 +21,6 @@ returns-clause-draft g c = λ rs is.
     let draft : Draft = c.args.self.now in
     let r : LogRecord = record { kind = c.args.kind; payload = c.args.payload.now } in
     pushed draft rs (g.D.Disk.seen c.args.disk.now) is (g.D.Disk.seen c.put_body.new.disk) r _ refl c.requires.size (omega (arith, c.in_ok-put_body.ensures.bound))
-        (written_then draft.area draft.end (draft.end + 1) (1 ∷ []) (body_of c.args.kind c.args.payload.now) (g.D.Disk.seen c.args.disk.now) (g.D.Disk.seen c.put.new.disk) (g.D.Disk.seen c.put_body.new.disk)
-            refl (draft_within draft rs (g.D.Disk.seen c.args.disk.now) is) c.in_ok-put.ensures.written c.in_ok-put_body.ensures.written)
-        (ran_puts draft.area draft.end (draft.end + 1) (g.D.Disk.seen c.args.disk.now) (g.D.Disk.seen c.put.new.disk) (g.D.Disk.seen c.put_body.new.disk) (omega arith) c.put.ensures.ran c.put_body.ensures.ran)
+    (written_then draft.area draft.end (draft.end + 1) (1 ∷ []) (body_of c.args.kind c.args.payload.now) (g.D.Disk.seen c.args.disk.now) (g.D.Disk.seen c.put.new.disk) (g.D.Disk.seen c.put_body.new.disk)
+    refl (draft_within draft rs (g.D.Disk.seen c.args.disk.now) is) c.in_ok-put.ensures.written c.in_ok-put_body.ensures.written)
+    (ran_puts draft.area draft.end (draft.end + 1) (g.D.Disk.seen c.args.disk.now) (g.D.Disk.seen c.put.new.disk) (g.D.Disk.seen c.put_body.new.disk) (omega arith) c.put.ensures.ran c.put_body.ensures.ran)

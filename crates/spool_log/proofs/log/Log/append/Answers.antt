@@ -1,6 +1,5 @@
-use Rattle.std.proofs.Common.{◌≡◌, ◌+◌, ◌<◌, ◌^◌, ◌∷◌, [], List, ℕ, arith, refl, inl, inr, sym, subst, length, IfSome}
+use Rattle.std.proofs.Common.{arith}
 use Rattle.spool_log.specs.Area.{LogRecord}
-use Rattle.spool_log.specs.declared.log.Log.{Log}
 use Rattle.spool_log.proofs.Drafts.{append_first, append_ran, append_added, append_form}
 use Rattle.spool_log.proofs.log.Log.append.Goals as goal
 
@@ -31,6 +30,6 @@ returns-clause-ready g c =
       form = append_form c.args.self.now.header c.args.self.now.area c.args.self.now.end r c.requires.size (g.D.Disk.seen c.args.disk.now) (g.D.Disk.seen c.stage.new.disk) (g.D.Disk.seen c.set_gate.new.disk)
           c.requires.ready.form
           (append_added c.args.self.now.header c.args.self.now.area c.args.self.now.end r c.requires.size (g.D.Disk.seen c.args.disk.now) (g.D.Disk.seen c.stage.new.disk) (g.D.Disk.seen c.set_gate.new.disk)
-              c.in_ok-stage.ensures.written c.in_ok-set_gate.ensures.written);
+          c.in_ok-stage.ensures.written c.in_ok-set_gate.ensures.written);
       durable = c.in_ok-set_gate.ensures.durable;
     }

@@ -1,5 +1,5 @@
-use Rattle.std.proofs.Common.{◌≡◌, ◌≤◌, sym, ◌∙◌, subst, arith, length, List, ℕ}
-use Rattle.spool_log.specs.declared.head.Start.TheVariants.{Wrong, Headed}
+use Rattle.std.proofs.Common.{sym, ◌∙◌, arith}
+use Rattle.spool_log.specs.declared.head.Start.TheVariants.{Wrong}
 use Rattle.spool_log.proofs.Headers.{start_found, header_found}
 use Rattle.spool_log.proofs.log.Log.open.Goals as goal
 
