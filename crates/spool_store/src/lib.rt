@@ -3,6 +3,7 @@
 
 mod faults;
 mod limits;
+mod rewrite;
 
 pub use faults::{OpenFault, RewriteFault};
 pub use limits::AREA_LIMIT;
