@@ -1,3 +1,5 @@
 pub mod Unique
 pub mod Forces
 pub mod Copying
+pub mod Pieces
+pub mod Relaid
