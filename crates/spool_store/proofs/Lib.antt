@@ -3,3 +3,4 @@ pub mod Forces
 pub mod Copying
 pub mod Pieces
 pub mod Relaid
+pub mod Turning
