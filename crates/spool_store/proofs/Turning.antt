@@ -44,6 +44,29 @@ pub clears_opens : (o : ℕ) (h : Header) (rs : List LogRecord) (end : ℕ) (a b
 clears_opens o h rs end a b c shut first second = ran_by o (λ bytes. ⊤) StartsShut Clears (Opens h rs end) (Turns h rs end) a b c (left_any o a) shut
     (λ x y was clears. inl clears) (λ x y z was is clears opens. ⊎_elim (λ s. inl (inr (blank_shut z s))) (λ form. inr form) (opens is)) first second
 
+-- until the copying ends the other area is as it was, or blank
+pub copied_ran : (o : ℕ) (first : Draft) (rs : List LogRecord) (a b c d : DiskSeen) → IfSome b.told (λ read. length (area_of o read) ≤ 1) → IsDurable o b → Ran o Clears a b → Ran o BeginsBlank b c
+    → first.area ≡ o → IsDraft first rs c → Ran first.area StaysShut c d → Ran o Clears a d
+copied_ran o first rs a b c d short durable cleared begun here is copied = clears_stays o a c d (subst (λ (k : ℕ). AllLeft k StartsShut c) here is.shut)
+    (clears_begin o a b c short durable cleared begun) (subst (λ (k : ℕ). Ran k StaysShut c d) here copied)
+
+-- and then it may be the log
+pub opened_ran : (o : ℕ) (draft : Draft) (a d e : DiskSeen) → draft.area ≡ o → Ran o Clears a d → ((rs : List LogRecord) → IsDraft draft rs d → Ran draft.area (Opens draft.header rs draft.end) d e)
+    → (rs : List LogRecord) → IsDraft draft rs d → Ran o (Turns draft.header rs draft.end) a e
+opened_ran o draft a d e here copied opened rs is = clears_opens o draft.header rs draft.end a d e (subst (λ (k : ℕ). AllLeft k StartsShut d) here is.shut) copied
+    (subst (λ (k : ℕ). Ran k (Opens draft.header rs draft.end) d e) here (opened rs is))
+
+-- what is so of an area under calls on the other one
+pub carried : (area o : ℕ) (step : List ℕ → List ℕ → Type 0) (P : List ℕ → Type 0) (a b : DiskSeen) → area ≢ o → Ran o step a b → IfSome a.told (λ read. P (area_of area read)) → IfSome b.told (λ read. P (area_of area read))
+carried area o step P a b differs ran holds = if_some (λ read. P (area_of area read)) b.told (λ now told.
+    let before = told_before o Any a b now told ran.reads in
+    subst P (sym (before.2.elsewhere area differs)) (at_some (λ read. P (area_of area read)) a.told before.0 before.1 holds))
+
+pub carried_back : (area o : ℕ) (step : List ℕ → List ℕ → Type 0) (P : List ℕ → Type 0) (a b : DiskSeen) → area ≢ o → Ran o step a b → IfSome b.told (λ read. P (area_of area read)) → IfSome a.told (λ read. P (area_of area read))
+carried_back area o step P a b differs ran holds = if_some (λ read. P (area_of area read)) a.told (λ read told.
+    let after = moved_from o Any a b read told ran.reads in
+    subst P (after.2.elsewhere area differs) (at_some (λ read. P (area_of area read)) b.told after.0 after.1 holds))
+
 -- which area is in force
 blank_force : (area o : ℕ) (image : Image) (h : Header) → area < 2 → o < 2 → o ≢ area → start_of (area_of area image) ≡ Headed h → start_of (area_of o image) ≡ Blank → force_in image ≡ InForce area
 blank_force zero zero image h lt below apart one two = absurd (apart refl)

@@ -2,20 +2,47 @@
 //!
 //! Until the last step that area is blank in every image, so that the other one is in force. From then on it is in force itself,
 //! and has the same messages pending.
-ghost use Rattle.std.specs.Prelude.{◌≡◌, ◌≢◌, ◌≤◌, ◌<◌, ◌+◌, ◌++◌, ◌==◌, if◌then◌else◌, List, [], length, take, drop, map, All, IfOk, IfSome, OnOk, sum_by};
+ghost use Rattle.std.specs.Prelude.{◌≡◌, ◌≢◌, ◌≤◌, ◌<◌, ◌+◌, ◌-◌, ◌%◌, ◌^◌, ◌++◌, ◌==◌, if◌then◌else◌, List, [], length, take, drop, map, All, IfOk, IfSome, OnOk, sum_by};
 ghost use Rattle.kumo_base.specs.Causes.{HasCause};
 ghost use Rattle.kumo_disk.specs.Disk.{area_of, Same};
 ghost use Rattle.kumo_disk.specs.Calls.{Ran};
 ghost use Rattle.spool_log.specs.Area.{LogRecord};
 ghost use Rattle.spool_log.specs.Log.{IsDraft, HasDraft, StaysShut};
 ghost use Rattle.spool_index.specs.Places.{compacted_cost, compacted_size};
-ghost use Rattle.spool_store.specs.inside.Rewriting.{deferral_of, copy_of, copies_of, AreWithin};
+ghost use Rattle.spool_store.specs.inside.Rewriting.{deferral_of, copy_of, copies_of, AreWithin, laid_out};
+ghost use Rattle.spool_store.specs.Crash.{Since, StandsForRead};
+ghost use Rattle.spool_store.specs.inside.Standing.{Stands};
 
 use kumo_base::{Failed, Memory};
 use kumo_disk::Disk;
 use spool_format::{Deferral, write_deferred};
 use spool_index::{Pending, Place};
-use spool_log::Draft;
+use spool_log::{Draft, Log, clear};
+
+// Writes the messages into the other area, which is then in force. On the log's area nothing changes.
+fn write_anew<D: Disk>(
+    disk: &mut D,
+    log: &mut Log,
+    pending: &Pending,
+    payload: &mut [u8],
+) -> Result<(), Failed>
+    requires stands { Stands log.old pending.now (D.seen disk.old) }
+    requires room { All (λ p. p.size ≤ length payload.old) pending.now }
+    ensures since { Since StandsForRead (D.seen disk.old) (D.seen disk.new) }
+    ensures stands { OnOk result (Stands log.new (laid_out 16 pending.now) (D.seen disk.new)) }
+    ensures next { OnOk result (log.new ≡ record {
+        area = 1 - log.old.area;
+        header = record { version = 2; generation = (log.old.header.generation + 1) % 2 ^ 64 };
+        end = 16 + sum_by compacted_cost pending.now }) }
+    ensures cause { HasCause (D.seen disk.old).faults (D.seen disk.new).faults result }
+{
+    let other = 1 - log.area;
+    clear(disk, other)?;
+    let mut draft = Draft::begin(disk, other, log.header.generation.wrapping_add(1))?;
+    copy_all(disk, log.area, pending, &mut draft, payload)?;
+    *log = draft.open(disk)?;
+    Ok(())
+}
 
 // A buffer for the payload of each message. After `Memory` it has any bytes.
 fn make_room(pending: &Pending, payload: &mut Vec<u8>) -> Result<(), Memory>

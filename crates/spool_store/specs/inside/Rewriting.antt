@@ -1,9 +1,12 @@
--- The records and the places of pending messages that are written anew.
-use Rattle.std.specs.Prelude.{ℕ, ◌+◌, ◌≤◌, ◌==◌, List, [], ◌∷◌, ◌++◌, length, take, drop, if◌then◌else◌, ⊤}
+-- Pending messages that are written anew: their records, their places, and what it answers.
+use Rattle.std.specs.Prelude.{ℕ, ◌+◌, ◌≤◌, ◌==◌, List, [], ◌∷◌, ◌++◌, length, take, drop, if◌then◌else◌, Result, IfErr, ⊤}
+use Rattle.kumo_base.specs.Causes.{Rose}
 use Rattle.spool_log.specs.Area.{LogRecord}
 use Rattle.spool_format.specs.Deferred.{deferred_payload}
 use Rattle.spool_index.specs.declared.place.Place.{Place}
 use Rattle.spool_index.specs.Places.{compacted_cost}
+use Rattle.spool_store.specs.declared.faults.RewriteFault.{RewriteFault}
+use Rattle.spool_store.specs.declared.faults.RewriteFault.TheVariants as fault
 
 -- the record of a message's failures, where it has some
 abbrev pub deferral_of : Place → List LogRecord
@@ -28,3 +31,17 @@ AreWithin bytes (p ∷ ps) = (p.at + p.size ≤ length bytes) × AreWithin bytes
 abbrev pub laid_out : ℕ → List Place → List Place
 laid_out at [] = []
 laid_out at (p ∷ ps) = (record p { at = at + 6 }) ∷ laid_out (at + compacted_cost p) ps
+
+-- this holds where there was no memory
+abbrev pub WhereMemory : Type 0 → RewriteFault → Type 0
+WhereMemory P fault.DiskFault = ⊤
+WhereMemory P fault.Memory = P
+
+-- a fault of the disk comes only where its count rose
+abbrev pub IsRewriteCause : Type 0 → RewriteFault → Type 0
+IsRewriteCause Risen fault.DiskFault = Risen
+IsRewriteCause Risen fault.Memory = ⊤
+
+pub record HasRewriteCause {T : Type 0} (before now : ℕ) (result : Result T RewriteFault) : Type 0 where
+  pub later : before ≤ now
+  pub failed : IfErr result (IsRewriteCause (Rose before now))
