@@ -77,7 +77,7 @@ pub copied_next : (area other : ℕ) (before later : Draft) (p : Place) (left al
     → CopiedSoFar area before (p ∷ left) all a b → CopiedSoFar area later left all a c
 copied_next area other before later p left all a b c differs ran copied so_far = if_some _ a.told (λ read told.
     let here = at_some (λ read. AreWithin (area_of area read) (p ∷ left)
-        × ((rs : List LogRecord) × IsDraft before rs b × (rs ++ copies_of (area_of area read) (p ∷ left) ≡ copies_of (area_of area read) all))) a.told read told so_far in
+    × ((rs : List LogRecord) × IsDraft before rs b × (rs ++ copies_of (area_of area read) (p ∷ left) ≡ copies_of (area_of area read) all))) a.told read told so_far in
     let mid = other_reads area other StaysShut a b read differs told ran in
     let made : IsDraft later (here.1.0 ++ copy_of (area_of area mid.0) p) c = at_some (λ read. IsDraft later (here.1.0 ++ copy_of (area_of area read) p) c) b.told mid.0 mid.1 (copied here.1.0 here.1.1) in (
       here.0.1,

@@ -195,7 +195,7 @@ good_after v at items later r bytes x here good is =
     put_off is =
         let one = deferred_one items later (deferred_in r.payload) is in
         subst (λ (l : List Item). AreGood bytes l) (sym one.2)
-            (record { held = held_later bytes one.0 items (deferred_proper r.payload one.0 one.1) good.held; distinct = distinct_later one.0 items ∙ good.distinct })
+        (record { held = held_later bytes one.0 items (deferred_proper r.payload one.0 one.1) good.held; distinct = distinct_later one.0 items ∙ good.distinct })
 
     no_good : None ≡ Some later → AreGood bytes later
     no_good is = absurd (let no_some : None ≡ Some later = is in cc)
@@ -209,8 +209,8 @@ good_played v at items later (r ∷ rs) bytes x here good is =
     let whole : drop at bytes ≡ bytes_of r ++ (bytes_of_all rs ++ x) = here ∙ append_assoc (bytes_of r) (bytes_of_all rs) x in
     let one = then_some (after v at items r) (λ l. played v (at + length (bytes_of r)) l rs) later is in
     good_played v (at + length (bytes_of r)) one.0 later rs bytes x
-        (sym (drop-drop (length (bytes_of r)) at bytes) ∙ ap (λ (l : List ℕ). drop (length (bytes_of r)) l) whole ∙ drop_at (bytes_of r) (bytes_of_all rs ++ x) (length (bytes_of r)) refl)
-        (good_after v at items one.0 r bytes (bytes_of_all rs ++ x) whole good one.1) one.2
+    (sym (drop-drop (length (bytes_of r)) at bytes) ∙ ap (λ (l : List ℕ). drop (length (bytes_of r)) l) whole ∙ drop_at (bytes_of r) (bytes_of_all rs ++ x) (length (bytes_of r)) refl)
+    (good_after v at items one.0 r bytes (bytes_of_all rs ++ x) whole good one.1) one.2
 
 -- the messages that an area has pending are good ones
 pub good_form : (h : Header) (rs : List LogRecord) (end : ℕ) (bytes : List ℕ) (items : List Item) → Form h rs end bytes → played h.version 16 [] rs ≡ Some items → AreGood bytes items

@@ -139,9 +139,9 @@ copies_played bytes at done (i ∷ items) held distinct =
     let now : Item = record { at = at + 6; kept = i.kept } in
     let parts = distinct_parts (places_of done) (place_of i) (places_of items) distinct in
     let still : are_distinct (places_of (done ++ now ∷ []) ++ places_of items) ≡ true =
-        ap (λ (l : List Place). are_distinct (l ++ places_of items)) (places_push done now)
-        ∙ ap are_distinct (append_assoc (places_of done) (place_of now ∷ []) (places_of items))
-        ∙ distinct_instead (places_of done) (place_of i) (place_of now) (places_of items) refl ∙ distinct in
+    ap (λ (l : List Place). are_distinct (l ++ places_of items)) (places_push done now)
+    ∙ ap are_distinct (append_assoc (places_of done) (place_of now ∷ []) (places_of items))
+    ∙ distinct_instead (places_of done) (place_of i) (place_of now) (places_of items) refl ∙ distinct in
     copy_played bytes at done i held.0 parts.0 (copies_of bytes (places_of items))
     ∙ copies_played bytes (at + compacted_cost (place_of i)) (done ++ now ∷ []) items held.1 still
     ∙ ap (λ (l : List Item). Some l) (append_assoc done (now ∷ []) (relaid (at + compacted_cost (place_of i)) items))

@@ -1,10 +1,10 @@
 -- Writing anew into the area that is not in force: what a crash may leave, and what stands in the end.
-use Rattle.std.proofs.Common.{◌≡◌, ◌≢◌, ◌⊎◌, inl, inr, ⊎_elim, ℕ, zero, suc, ◌+◌, ◌%◌, ◌≤◌, ◌<◌, ◌^◌, List, [], ◌∷◌, ◌++◌, length, Option, Some, None, IfSome, MatchOption, refl, sym, ◌∙◌, subst, ap, arith}
+use Rattle.std.proofs.Common.{◌≡◌, ◌≢◌, ◌⊎◌, inl, inr, ⊎_elim, ℕ, zero, suc, ◌+◌, ◌-◌, ◌%◌, ◌≤◌, ◌<◌, ◌^◌, List, [], ◌∷◌, ◌++◌, length, Option, Some, None, IfSome, MatchOption, refl, sym, ◌∙◌, subst, ap, arith}
 use Rattle.std.specs.Bool.{⊤}
 use Rattle.std.proofs.lemmas.Bool.{cases_eq}
 use Rattle.kumo_disk.specs.Disk.{Image, area_of, DiskSeen, Moved, Each, ReadMoves, IsDurable, Any}
 use Rattle.kumo_disk.specs.Calls.{Ran}
-use Rattle.kumo_disk.proofs.Runs.{at_some, if_some, moved_from, untold_from, told_before, durable_elsewhere}
+use Rattle.kumo_disk.proofs.Runs.{at_some, if_some, moved_from, untold_from, told_before, durable_elsewhere, ran_now}
 use Rattle.kumo_disk.proofs.Known.{AllLeft, ran_by, left_durable, left_any, told_after}
 use Rattle.spool_log.specs.Area.{LogRecord, Form}
 use Rattle.spool_log.specs.Head.{start_of, Clears, StartsShut}
@@ -30,6 +30,13 @@ use Rattle.spool_store.proofs.Relaid.{relaid, kept_relaid, places_relaid, are_wi
 -- the area is as it was, or blank, or a log of these records
 abbrev pub Turns : Header → List LogRecord → ℕ → List ℕ → List ℕ → Type 0
 Turns h rs end old new = Clears old new ⊎ Form h rs end new
+
+-- the other area
+pub other_below : (area : ℕ) → area < 2 → 1 - area < 2
+other_below area lt = omega (arith, lt)
+
+pub other_apart : (area : ℕ) → area < 2 → 1 - area ≢ area
+other_apart area lt = λ is. absurd (omega (arith, is, lt))
 
 -- the calls on the other area, one after the other
 pub clears_begin : (o : ℕ) (a b c : DiskSeen) → IfSome b.told (λ read. length (area_of o read) ≤ 1) → IsDurable o b → Ran o Clears a b → Ran o BeginsBlank b c → Ran o Clears a c
@@ -164,7 +171,7 @@ content_since kept a b since has = if_some (λ now. Recovers now kept) b.told (�
     by now told None none still = none_some now (sym still ∙ told)
     by now told (Some read) some still =
         (at_some (λ read. (image : Image) → b.left a.moment image → StandsForRead read image) a.told read some since.images now
-            (b.earlier a.moment b.moment now since.time.later (omega arith) (b.as_read now told))).sound kept (at_some (λ read. Recovers read kept) a.told read some has)
+        (b.earlier a.moment b.moment now since.time.later (omega arith) (b.as_read now told))).sound kept (at_some (λ read. Recovers read kept) a.told read some has)
 
 module _ (log : Log) (places : List Place) (a : DiskSeen) (stands : Stands log places a) (o : ℕ) (below : o < 2) (apart : o ≢ log.area) where
   area_apart : log.area ≢ o
@@ -197,7 +204,7 @@ module _ (log : Log) (places : List Place) (a : DiskSeen) (stands : Stands log p
         let here = good_read read told in
         let moved = from_read Clears b ran read told image left in
         stands_for log.area log.end log.header here.0 read log.area log.end log.header here.0 image stands.ready.area stands.ready.area here.1
-            (clear_standing log.area o log.header log.end here.0 read image stands.ready.area below apart here.1 (moved.elsewhere log.area area_apart) moved.here moved.elsewhere) refl);
+        (clear_standing log.area o log.header log.end here.0 read image stands.ready.area below apart here.1 (moved.elsewhere log.area area_apart) moved.here moved.elsewhere) refl);
     still = still_told o Clears a b ran;
   }
 
@@ -222,13 +229,13 @@ module _ (log : Log) (places : List Place) (a : DiskSeen) (stands : Stands log p
           let moved = from_read (Turns draft.header rs draft.end) e (ran rs (at_some (λ read. IsDraft draft (copies_of (area_of log.area read) places) d) a.told read told drafted)) read told image left in
           let same : area_of log.area image ≡ area_of log.area read = moved.elsewhere log.area area_apart in
           ⊎_elim
-              (λ clears. stands_for log.area log.end log.header here.0 read log.area log.end log.header here.0 image stands.ready.area stands.ready.area here.1
-                  (clear_standing log.area o log.header log.end here.0 read image stands.ready.area below apart here.1 same clears moved.elsewhere) refl)
-              (λ made. stands_for log.area log.end log.header here.0 read o draft.end draft.header (relaid 16 here.0) image stands.ready.area below here.1
-                  (next_standing log.area o log.header log.end here.0 read image stands.ready.area below apart here.1 same draft.header rs draft.end (relaid 16 here.0) next made
-                      (draft_plays read here.0 here.2 here.3))
-                  (kept_relaid 16 here.0))
-              moved.here);
+          (λ clears. stands_for log.area log.end log.header here.0 read log.area log.end log.header here.0 image stands.ready.area stands.ready.area here.1
+          (clear_standing log.area o log.header log.end here.0 read image stands.ready.area below apart here.1 same clears moved.elsewhere) refl)
+          (λ made. stands_for log.area log.end log.header here.0 read o draft.end draft.header (relaid 16 here.0) image stands.ready.area below here.1
+          (next_standing log.area o log.header log.end here.0 read image stands.ready.area below apart here.1 same draft.header rs draft.end (relaid 16 here.0) next made
+          (draft_plays read here.0 here.2 here.3))
+          (kept_relaid 16 here.0))
+          moved.here);
       still = still_told o (Turns draft.header has.0 draft.end) a e some_ran;
     }
 
@@ -254,9 +261,9 @@ module _ (log : Log) (places : List Place) (a : DiskSeen) (stands : Stands log p
           at : (n : ℕ) → n < 2 → (now : Image) → e.told ≡ Some now → (image : Image) → e.left e.moment image → area_of n image ≡ area_of n now
           at n lt now told image left = ⊎_elim
               (λ is. subst (λ (k : ℕ). area_of k image ≡ area_of k now) (sym is)
-                  (at_some (λ read. (image : Image) → e.left e.moment image → area_of log.area image ≡ area_of log.area read) e.told now told second image left))
+              (at_some (λ read. (image : Image) → e.left e.moment image → area_of log.area image ≡ area_of log.area read) e.told now told second image left))
               (λ is. subst (λ (k : ℕ). area_of k image ≡ area_of k now) (sym is)
-                  (at_some (λ read. (image : Image) → e.left e.moment image → area_of o image ≡ area_of o read) e.told now told ready.durable image left))
+              (at_some (λ read. (image : Image) → e.left e.moment image → area_of o image ≡ area_of o read) e.told now told ready.durable image left))
               (one_of n log.area o lt stands.ready.area below apart)
 
       pub stands_turned : Stands (record { area = o; header = draft.header; end = draft.end }) (laid_out 16 places) e
@@ -268,11 +275,15 @@ module _ (log : Log) (places : List Place) (a : DiskSeen) (stands : Stands log p
             let here = good_read before.0 before.1 in
             let rs : List LogRecord = copies_of (area_of log.area before.0) places in
             let made : Form draft.header rs draft.end (area_of o now) =
-                at_some (λ now. Form draft.header rs draft.end (area_of o now)) e.told now told
-                    (form rs (at_some (λ read. IsDraft draft (copies_of (area_of log.area read) places) d) a.told before.0 before.1 drafted)) in (
+            at_some (λ now. Form draft.header rs draft.end (area_of o now)) e.told now told
+            (form rs (at_some (λ read. IsDraft draft (copies_of (area_of log.area read) places) d) a.told before.0 before.1 drafted)) in (
               relaid 16 here.0,
               next_standing log.area o log.header log.end here.0 before.0 now stands.ready.area below apart here.1 (before.2.elsewhere log.area area_apart) draft.header rs draft.end (relaid 16 here.0)
                   next made (draft_plays before.0 here.0 here.2 here.3),
               ap (λ (l : List Place). laid_out 16 l) here.2 ∙ sym (places_relaid 16 here.0),
             ));
       }
+
+-- before any call each image is what was read
+pub since_now : (log : Log) (places : List Place) (a : DiskSeen) → Stands log places a → Since StandsForRead a a
+since_now log places a stands = since_clears log places a stands (1 - log.area) (other_below log.area stands.ready.area) (other_apart log.area stands.ready.area) a (ran_now (1 - log.area) Clears a (λ b. inl refl))

@@ -2,22 +2,57 @@
 //!
 //! Until the last step that area is blank in every image, so that the other one is in force. From then on it is in force itself,
 //! and has the same messages pending.
-ghost use Rattle.std.specs.Prelude.{◌≡◌, ◌≢◌, ◌≤◌, ◌<◌, ◌+◌, ◌-◌, ◌%◌, ◌^◌, ◌++◌, ◌==◌, if◌then◌else◌, List, [], length, take, drop, map, All, IfOk, IfSome, OnOk, sum_by};
+ghost use Rattle.std.specs.Prelude.{◌≡◌, ◌≢◌, ◌≤◌, ◌<◌, ◌+◌, ◌-◌, ◌%◌, ◌^◌, ◌++◌, ◌==◌, if◌then◌else◌, List, [], length, take, drop, map, All, IfErr, IfSome, OnOk, sum_by};
 ghost use Rattle.kumo_base.specs.Causes.{HasCause};
 ghost use Rattle.kumo_disk.specs.Disk.{area_of, Same};
 ghost use Rattle.kumo_disk.specs.Calls.{Ran};
 ghost use Rattle.spool_log.specs.Area.{LogRecord};
 ghost use Rattle.spool_log.specs.Log.{IsDraft, HasDraft, StaysShut};
 ghost use Rattle.spool_index.specs.Places.{compacted_cost, compacted_size};
-ghost use Rattle.spool_store.specs.inside.Rewriting.{deferral_of, copy_of, copies_of, AreWithin, laid_out};
+ghost use Rattle.spool_store.specs.inside.Rewriting.{deferral_of, copy_of, copies_of, AreWithin, laid_out, WhereMemory, HasRewriteCause};
+ghost use Rattle.spool_format.specs.declared.kept.Kept.{Kept};
+ghost use Rattle.spool_store.specs.Reading.{HasContent};
+ghost use Rattle.spool_store.specs.Store.{unplaced};
 ghost use Rattle.spool_store.specs.Crash.{Since, StandsForRead};
 ghost use Rattle.spool_store.specs.inside.Standing.{Stands};
 
+use crate::faults::RewriteFault;
 use kumo_base::{Failed, Memory};
 use kumo_disk::Disk;
 use spool_format::{Deferral, write_deferred};
 use spool_index::{Pending, Place};
 use spool_log::{Draft, Log, clear};
+
+/// Writes the pending messages anew into the other area, which is then in force with the next generation (modulo 2^64). The buffer
+/// is emptied first, and its memory is used again.
+///
+/// In each image since the call began the same messages are pending. At `Memory` nothing was done. At `DiskFault` the count of
+/// faults has risen, and neither the log nor the disk is used again.
+pub fn rewrite<D: Disk>(
+    disk: &mut D,
+    log: &mut Log,
+    pending: &mut Pending,
+    payload: &mut Vec<u8>,
+) -> Result<(), RewriteFault>
+    requires { Stands log.old pending.old (D.seen disk.old) }
+    ensures since { Since StandsForRead (D.seen disk.old) (D.seen disk.new) }
+    ensures content { (kept : List Kept) → HasContent kept (D.seen disk.old) → HasContent kept (D.seen disk.new) }
+    ensures stands { OnOk result (Stands log.new (laid_out 16 pending.new) (D.seen disk.new)) }
+    ensures pending { OnOk result (map unplaced pending.new ≡ map unplaced pending.old) }
+    ensures log { OnOk result ((log.new.header.version ≡ 2) × (log.new.end + 1 ≡ compacted_size pending.old)) }
+    ensures next { OnOk result ((log.new.area ≡ 1 - log.old.area)
+        × (log.new.header.generation ≡ (log.old.header.generation + 1) % 2 ^ 64)) }
+    ensures memory { IfErr result (WhereMemory ((log.new ≡ log.old) × (pending.new ≡ pending.old) × (disk.new ≡ disk.old))) }
+    ensures cause { HasRewriteCause (D.seen disk.old).faults (D.seen disk.new).faults result }
+{
+    if make_room(pending, payload).is_err() {
+        return Err(RewriteFault::Memory);
+    }
+    match write_anew(disk, log, pending, payload) {
+        Ok(()) => Ok(()),
+        Err(_) => Err(RewriteFault::DiskFault),
+    }
+}
 
 // Writes the messages into the other area, which is then in force. On the log's area nothing changes.
 fn write_anew<D: Disk>(
@@ -31,9 +66,10 @@ fn write_anew<D: Disk>(
     ensures since { Since StandsForRead (D.seen disk.old) (D.seen disk.new) }
     ensures stands { OnOk result (Stands log.new (laid_out 16 pending.now) (D.seen disk.new)) }
     ensures next { OnOk result (log.new ≡ record {
-        area = 1 - log.old.area;
-        header = record { version = 2; generation = (log.old.header.generation + 1) % 2 ^ 64 };
-        end = 16 + sum_by compacted_cost pending.now }) }
+      area = 1 - log.old.area;
+      header = record { version = 2; generation = (log.old.header.generation + 1) % 2 ^ 64 };
+      end = 16 + sum_by compacted_cost pending.now;
+    }) }
     ensures cause { HasCause (D.seen disk.old).faults (D.seen disk.new).faults result }
 {
     let other = 1 - log.area;
@@ -90,7 +126,10 @@ fn push_deferral<D: Disk>(disk: &mut D, draft: &mut Draft, place: Place) -> Resu
     ensures draft { (rs : List LogRecord) → IsDraft draft.old rs (D.seen disk.old)
         → OnOk result (IsDraft draft.new (rs ++ deferral_of place) (D.seen disk.new)) }
     ensures next { OnOk result (draft.new ≡ record {
-        area = draft.old.area; header = draft.old.header; end = draft.old.end + (if place.failures == 0 then 0 else 34) }) }
+      area = draft.old.area;
+      header = draft.old.header;
+      end = draft.old.end + (if place.failures == 0 then 0 else 34);
+    }) }
     ensures cause { HasCause (D.seen disk.old).faults (D.seen disk.new).faults result }
 {
     if place.failures == 0 {
@@ -121,7 +160,10 @@ fn copy_one<D: Disk>(
         IsDraft draft.new (rs ++ copy_of (area_of area read) place) (D.seen disk.new))) }
     ensures has { OnOk result (HasDraft draft.new (D.seen disk.new)) }
     ensures next { OnOk result (draft.new ≡ record {
-        area = draft.old.area; header = draft.old.header; end = draft.old.end + compacted_cost place }) }
+      area = draft.old.area;
+      header = draft.old.header;
+      end = draft.old.end + compacted_cost place;
+    }) }
     ensures room { length payload.new ≡ length payload.old }
     ensures cause { HasCause (D.seen disk.old).faults (D.seen disk.new).faults result }
 {
@@ -149,7 +191,10 @@ fn copy_all<D: Disk>(
         IsDraft draft.new (copies_of (area_of area read) pending.now) (D.seen disk.new))) }
     ensures has { OnOk result (HasDraft draft.new (D.seen disk.new)) }
     ensures next { OnOk result (draft.new ≡ record {
-        area = draft.old.area; header = draft.old.header; end = draft.old.end + sum_by compacted_cost pending.now }) }
+      area = draft.old.area;
+      header = draft.old.header;
+      end = draft.old.end + sum_by compacted_cost pending.now;
+    }) }
     ensures cause { HasCause (D.seen disk.old).faults (D.seen disk.new).faults result }
 {
     let mut walk = pending.walk();

@@ -37,4 +37,4 @@ pub returns-in_err-copy_one-clause-ran : goal.returns-in_err-copy_one-clause-ran
 returns-in_err-copy_one-clause-ran g c =
     let first : Draft = c.args.draft.now in
     shut_then first.area (g.D.Disk.seen c.args.disk.now) (g.D.Disk.seen c.loop-place.disk) (g.D.Disk.seen c.copy_one.new.disk) c.loop-place.invariant.ran
-        (subst (λ (k : ℕ). Ran k StaysShut (g.D.Disk.seen c.loop-place.disk) (g.D.Disk.seen c.copy_one.new.disk)) c.loop-place.invariant.of_area c.copy_one.ensures.ran)
+    (subst (λ (k : ℕ). Ran k StaysShut (g.D.Disk.seen c.loop-place.disk) (g.D.Disk.seen c.copy_one.new.disk)) c.loop-place.invariant.of_area c.copy_one.ensures.ran)

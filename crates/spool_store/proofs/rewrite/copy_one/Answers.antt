@@ -46,7 +46,7 @@ returns-clause-ran g c =
     let e = g.D.Disk.seen c.push_deferral.new.disk in
     let same : c.push.new.self.area ≡ draft.area = ap (λ (d : Draft). d.area) c.in_ok-push.ensures.next in
     shut_then draft.area a b e (same_shut draft.area a b (ran_other c.args.area draft.area a b c.read_piece.ensures.same c.read_piece.ensures.ran))
-        (shut_then draft.area b m e c.push.ensures.ran (subst (λ (k : ℕ). Ran k StaysShut m e) same c.push_deferral.ensures.ran))
+    (shut_then draft.area b m e c.push.ensures.ran (subst (λ (k : ℕ). Ran k StaysShut m e) same c.push_deferral.ensures.ran))
 
 pub returns-clause-draft : goal.returns-clause-draft
 returns-clause-draft g c = λ rs is.
@@ -58,12 +58,12 @@ returns-clause-draft g c = λ rs is.
     let pushed = c.in_ok-push.ensures.draft rs (draft_stays draft rs a b c.read_piece.ensures.same (ran_other c.args.area draft.area a b c.read_piece.ensures.same c.read_piece.ensures.ran) is) in
     let all : List LogRecord = (rs ++ (record { kind = 1; payload = piece }) ∷ []) ++ deferral_of c.args.place in
     on_ok (IsDraft c.push_deferral.new.draft all e) (IfSome a.told (λ read. IsDraft c.push_deferral.new.draft (rs ++ copy_of (area_of c.args.area read) c.args.place) e)) c.push_deferral.result
-        (λ made. if_some (λ read. IsDraft c.push_deferral.new.draft (rs ++ copy_of (area_of c.args.area read) c.args.place) e) a.told (λ read told.
-            subst (λ (l : List LogRecord). IsDraft c.push_deferral.new.draft l e)
-                (one_copied (area_of c.args.area read) c.args.place piece rs
-                    (at_some (λ read. piece ≡ take (length piece) (drop c.args.place.at (area_of c.args.area read))) a.told read told c.in_ok-read_piece.ensures.bytes) (omega arith))
-                made))
-        (c.push_deferral.ensures.draft (rs ++ (record { kind = 1; payload = piece }) ∷ []) pushed)
+    (λ made. if_some (λ read. IsDraft c.push_deferral.new.draft (rs ++ copy_of (area_of c.args.area read) c.args.place) e) a.told (λ read told.
+    subst (λ (l : List LogRecord). IsDraft c.push_deferral.new.draft l e)
+    (one_copied (area_of c.args.area read) c.args.place piece rs
+    (at_some (λ read. piece ≡ take (length piece) (drop c.args.place.at (area_of c.args.area read))) a.told read told c.in_ok-read_piece.ensures.bytes) (omega arith))
+    made))
+    (c.push_deferral.ensures.draft (rs ++ (record { kind = 1; payload = piece }) ∷ []) pushed)
 
 pub returns-clause-has : goal.returns-clause-has
 returns-clause-has g c =
@@ -76,4 +76,4 @@ returns-clause-has g c =
     let pushed = c.in_ok-push.ensures.draft rs (draft_stays draft rs a b c.read_piece.ensures.same (ran_other c.args.area draft.area a b c.read_piece.ensures.same c.read_piece.ensures.ran) c.requires.draft.1) in
     let all : List LogRecord = (rs ++ (record { kind = 1; payload = piece }) ∷ []) ++ deferral_of c.args.place in
     on_ok (IsDraft c.push_deferral.new.draft all e) (HasDraft c.push_deferral.new.draft e) c.push_deferral.result (λ made. (all, made))
-        (c.push_deferral.ensures.draft (rs ++ (record { kind = 1; payload = piece }) ∷ []) pushed)
+    (c.push_deferral.ensures.draft (rs ++ (record { kind = 1; payload = piece }) ∷ []) pushed)

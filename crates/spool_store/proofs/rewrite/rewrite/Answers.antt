@@ -1,0 +1,11 @@
+use Rattle.spool_store.proofs.Turning.{since_now, content_since}
+use Rattle.spool_store.proofs.rewrite.rewrite.Goals as goal
+
+pub returns-then-is_err-clause-since : goal.returns-then-clause-since
+returns-then-is_err-clause-since g c = since_now c.args.log.now c.args.pending.now (g.D.Disk.seen c.args.disk.now) c.requires
+
+pub returns-in-Ok-clause-content : goal.returns-in-Ok-clause-content
+returns-in-Ok-clause-content g c = λ kept has. content_since kept (g.D.Disk.seen c.args.disk.now) (g.D.Disk.seen c.write_anew.new.disk) c.write_anew.ensures.since has
+
+pub returns-in-Err-clause-content : goal.returns-in-Err-clause-content
+returns-in-Err-clause-content g c = λ kept has. content_since kept (g.D.Disk.seen c.args.disk.now) (g.D.Disk.seen c.write_anew.new.disk) c.write_anew.ensures.since has
