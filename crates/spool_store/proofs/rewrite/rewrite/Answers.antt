@@ -1,7 +1,7 @@
 use Rattle.spool_store.proofs.Turning.{since_now, content_since}
 use Rattle.spool_store.proofs.rewrite.rewrite.Goals as goal
 
-pub returns-then-is_err-clause-since : goal.returns-then-clause-since
+pub returns-then-is_err-clause-since : goal.returns-then-is_err-clause-since
 returns-then-is_err-clause-since g c = since_now c.args.log.now c.args.pending.now (g.D.Disk.seen c.args.disk.now) c.requires
 
 pub returns-in-Ok-clause-content : goal.returns-in-Ok-clause-content
