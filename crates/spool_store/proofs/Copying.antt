@@ -1,5 +1,5 @@
 -- The calls that copy messages from one area into a draft in the other.
-use Rattle.std.proofs.Common.{◌≡◌, ◌≢◌, ◌⊎◌, inl, inr, ℕ, ◌+◌, ◌≤◌, List, [], ◌∷◌, ◌++◌, length, take, drop, Option, Some, None, IfSome, Result, Ok, Err, OnOk, refl, sym, ◌∙◌, subst, ap, arith}
+use Rattle.std.proofs.Common.{◌≡◌, ◌≢◌, inl, inr, ℕ, List, [], ◌∷◌, ◌++◌, length, take, drop, Option, Some, IfSome, Result, Ok, Err, OnOk, sym, ◌∙◌, subst, ap}
 use Rattle.std.proofs.lemmas.Bool.{cases_eq}
 use Rattle.std.proofs.lemmas.List.{append_assoc}
 use Rattle.kumo_disk.specs.Disk.{Image, area_of, DiskSeen, Moved, Each, Same, Any}
@@ -8,7 +8,7 @@ use Rattle.kumo_disk.proofs.Runs.{at_some, if_some, moved_from, reads_same, ran_
 use Rattle.kumo_disk.proofs.Known.{left_after}
 use Rattle.spool_log.specs.Area.{LogRecord, bytes_of_all, header_rest}
 use Rattle.spool_log.specs.Head.{StartsShut}
-use Rattle.spool_log.specs.Log.{IsDraft, HasDraft, StaysShut}
+use Rattle.spool_log.specs.Log.{IsDraft, StaysShut}
 use Rattle.spool_log.specs.declared.draft.Draft.{Draft}
 use Rattle.spool_index.specs.declared.place.Place.{Place}
 use Rattle.spool_store.specs.inside.Rewriting.{deferral_of, copy_of, copies_of, AreWithin}

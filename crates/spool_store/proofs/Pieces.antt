@@ -1,5 +1,5 @@
 -- What a list of good records says of each message that is pending: where its payload stands, and what was deferred.
-use Rattle.std.proofs.Common.{◌≡◌, ◌≢◌, ◌⊎◌, inl, inr, ℕ, ◌+◌, ◌-◌, ◌≤◌, ◌<◌, List, [], ◌∷◌, ◌++◌, length, take, drop, Option, Some, None, Bool, true, false, not, ◌&&◌, ◌||◌, cond, eqb, refl, sym, ◌∙◌, subst, ap, arith}
+use Rattle.std.proofs.Common.{◌≡◌, ◌≢◌, ◌⊎◌, inl, inr, ℕ, ◌+◌, ◌≤◌, List, [], ◌∷◌, ◌++◌, length, take, drop, Option, Some, None, Bool, true, false, not, ◌&&◌, ◌||◌, cond, eqb, refl, sym, ◌∙◌, subst, ap, arith}
 use Rattle.std.specs.Bool.{⊤}
 use Rattle.std.proofs.lemmas.Bool.{or_parts, or_from, and_parts, and_from, not-true, not_from_false, eqb-true}
 use Rattle.std.proofs.lemmas.List.{append_assoc, drop-drop, drop_at, take_at, length-append, length-drop}
@@ -14,7 +14,7 @@ use Rattle.spool_format.proofs.ReadLemmas.{held_long, deferred_proper}
 use Rattle.spool_index.specs.declared.place.Place.{Place}
 use Rattle.spool_index.specs.Places.{has, are_distinct}
 use Rattle.spool_index.proofs.PlaceLemmas.{distinct_push}
-use Rattle.spool_store.specs.Content.{Item, fresh, place_of, places_of, without_item, with_deferral, deferred, has_item, hold_in, settle_in, defer_in, after, and_then, played}
+use Rattle.spool_store.specs.Content.{Item, fresh, place_of, places_of, without_item, with_deferral, deferred, has_item, hold_in, settle_in, defer_in, after, played}
 use Rattle.spool_store.proofs.Unique.{then_some}
 
 -- the deferral that a pending message has

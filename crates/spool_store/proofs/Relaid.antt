@@ -1,17 +1,17 @@
 -- The records that are written anew leave the same messages pending, at their new offsets.
-use Rattle.std.proofs.Common.{◌≡◌, ◌≢◌, ◌⊎◌, inl, inr, ℕ, ◌+◌, ◌-◌, ◌≤◌, ◌<◌, List, [], ◌∷◌, ◌++◌, length, map, take, drop, Option, Some, None, Bool, true, false, ◌||◌, cond, eqb, refl, sym, ◌∙◌, subst, ap, arith}
+use Rattle.std.proofs.Common.{◌≡◌, ◌≢◌, inl, inr, ℕ, ◌+◌, List, [], ◌∷◌, ◌++◌, length, map, take, drop, Option, Some, None, Bool, true, false, ◌||◌, cond, eqb, refl, sym, ◌∙◌, subst, ap, arith}
 use Rattle.std.proofs.lemmas.Bool.{or_parts, eq-eqb, cases_eq}
 use Rattle.std.proofs.lemmas.Bool.Decides.{nat_tests}
 use Rattle.std.proofs.lemmas.List.{append_assoc, append-nil, length-drop, length-take-le}
 use Rattle.queue_name.specs.declared.message.Message.{Message}
 use Rattle.spool_log.specs.Area.{LogRecord, bytes_of}
-use Rattle.spool_format.specs.Held.{held_payload, held_in}
-use Rattle.spool_format.specs.Deferred.{deferred_payload, deferred_in}
+use Rattle.spool_format.specs.Held.{held_payload}
+use Rattle.spool_format.specs.Deferred.{deferred_payload}
 use Rattle.spool_format.specs.declared.deferred.Deferral.{Deferral}
 use Rattle.spool_format.specs.declared.kept.Kept.{Kept}
 use Rattle.spool_format.proofs.SmallLemmas.{deferred_again, deferred_length}
 use Rattle.spool_index.specs.declared.place.Place.{Place}
-use Rattle.spool_index.specs.Places.{has, are_distinct, compacted_cost}
+use Rattle.spool_index.specs.Places.{are_distinct, compacted_cost}
 use Rattle.spool_index.proofs.PlaceLemmas.{distinct_parts, distinct_instead}
 use Rattle.spool_store.specs.Content.{Item, fresh, kept_of, place_of, places_of, with_deferral, deferred, has_item, hold_in, defer_in, after, and_then, played}
 use Rattle.spool_store.specs.Store.{unplaced}

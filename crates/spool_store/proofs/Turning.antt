@@ -1,11 +1,11 @@
 -- Writing anew into the area that is not in force: what a crash may leave, and what stands in the end.
-use Rattle.std.proofs.Common.{◌≡◌, ◌≢◌, ◌⊎◌, inl, inr, ⊎_elim, ℕ, zero, suc, ◌+◌, ◌-◌, ◌%◌, ◌≤◌, ◌<◌, ◌^◌, List, [], ◌∷◌, ◌++◌, length, Option, Some, None, IfSome, MatchOption, refl, sym, ◌∙◌, subst, ap, arith}
+use Rattle.std.proofs.Common.{◌≡◌, ◌≢◌, ◌⊎◌, inl, inr, ⊎_elim, ℕ, zero, suc, ◌+◌, ◌-◌, ◌%◌, ◌≤◌, ◌<◌, ◌^◌, List, [], length, Option, Some, None, IfSome, MatchOption, refl, sym, ◌∙◌, subst, ap, arith}
 use Rattle.std.specs.Bool.{⊤}
 use Rattle.std.proofs.lemmas.Bool.{cases_eq}
-use Rattle.kumo_disk.specs.Disk.{Image, area_of, DiskSeen, Moved, Each, ReadMoves, IsDurable, Any}
+use Rattle.kumo_disk.specs.Disk.{Image, area_of, DiskSeen, Moved, Each, IsDurable, Any}
 use Rattle.kumo_disk.specs.Calls.{Ran}
 use Rattle.kumo_disk.proofs.Runs.{at_some, if_some, moved_from, untold_from, told_before, durable_elsewhere, ran_now}
-use Rattle.kumo_disk.proofs.Known.{AllLeft, ran_by, left_durable, left_any, told_after}
+use Rattle.kumo_disk.proofs.Known.{AllLeft, ran_by, left_durable, left_any}
 use Rattle.spool_log.specs.Area.{LogRecord, Form}
 use Rattle.spool_log.specs.Head.{start_of, Clears, StartsShut}
 use Rattle.spool_log.specs.Log.{IsReady, IsDraft, HasDraft, BeginsBlank, StaysShut, Opens}
@@ -18,7 +18,7 @@ use Rattle.spool_log.proofs.Forms.{blank_shut}
 use Rattle.spool_format.specs.declared.kept.Kept.{Kept}
 use Rattle.spool_index.specs.declared.place.Place.{Place}
 use Rattle.spool_store.specs.Content.{Item, kept_of, places_of, played}
-use Rattle.spool_store.specs.Reading.{Reading, Sound, Broken, Force, InForce, by_generation, force_of, force_in, Reads, Recovers, HasContent}
+use Rattle.spool_store.specs.Reading.{Sound, Broken, InForce, by_generation, force_of, force_in, Recovers, HasContent}
 use Rattle.spool_store.specs.Crash.{IsOnDisk, Since, StandsForRead}
 use Rattle.spool_store.specs.inside.Standing.{Standing, Stands}
 use Rattle.spool_store.specs.inside.Rewriting.{copies_of, laid_out, AreWithin}

@@ -1,4 +1,4 @@
-use Rattle.std.proofs.Common.{◌≡◌, ◌≤◌, ◌∷◌, ◌++◌, [], All, List, ℕ, arith, ap, sym, ◌∙◌, subst, length, sum_by, IfSome}
+use Rattle.std.proofs.Common.{◌≡◌, ◌≤◌, ◌∷◌, All, List, ℕ, arith, ap, sym, ◌∙◌, subst, length, sum_by}
 use Rattle.std.proofs.lemmas.List.Elements.{All-tail}
 use Rattle.std.proofs.lemmas.List.Sums.{sum_by-cons}
 use Rattle.kumo_disk.specs.Calls.{Ran}

@@ -1,4 +1,4 @@
-use Rattle.std.proofs.Common.{◌≡◌, ◌≤◌, ◌+◌, ◌++◌, ℕ, List, All, length, sum_by, IfSome}
+use Rattle.std.proofs.Common.{◌≡◌, ◌≤◌, ◌+◌, ◌++◌, List, All, length, sum_by, IfSome}
 use Rattle.kumo_disk.specs.Disk.{area_of}
 use Rattle.kumo_disk.specs.Calls.{Ran}
 use Rattle.spool_log.specs.Area.{LogRecord}

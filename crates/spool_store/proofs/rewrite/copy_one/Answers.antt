@@ -1,5 +1,5 @@
-use Rattle.std.proofs.Common.{◌≡◌, ◌∷◌, ◌++◌, [], List, ℕ, arith, sym, subst, ap, take, drop, length, IfSome, OnOk}
-use Rattle.kumo_disk.specs.Disk.{Image, area_of, DiskSeen, Same}
+use Rattle.std.proofs.Common.{◌≡◌, ◌∷◌, ◌++◌, [], List, ℕ, arith, subst, ap, take, drop, length, IfSome}
+use Rattle.kumo_disk.specs.Disk.{area_of}
 use Rattle.kumo_disk.specs.Calls.{Ran}
 use Rattle.kumo_disk.proofs.Runs.{at_some, if_some}
 use Rattle.spool_log.specs.Area.{LogRecord}

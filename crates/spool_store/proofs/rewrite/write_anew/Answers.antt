@@ -1,8 +1,8 @@
-use Rattle.std.proofs.Common.{◌≡◌, ◌≢◌, ◌<◌, ◌+◌, ◌-◌, ◌%◌, ◌^◌, [], List, ℕ, arith, ap, sym, ◌∙◌, subst, IfSome}
+use Rattle.std.proofs.Common.{◌≡◌, ◌<◌, ◌-◌, [], ℕ, ap, sym, ◌∙◌, subst, IfSome}
 use Rattle.kumo_disk.specs.Disk.{area_of}
 use Rattle.kumo_disk.specs.Calls.{Ran}
 use Rattle.kumo_disk.proofs.Known.{told_after}
-use Rattle.spool_log.specs.Area.{LogRecord, Form}
+use Rattle.spool_log.specs.Area.{Form}
 use Rattle.spool_log.specs.Head.{Clears}
 use Rattle.spool_log.specs.Log.{IsReady, IsDraft}
 use Rattle.spool_log.specs.declared.draft.Draft.{Draft}
