@@ -2,7 +2,7 @@
 //!
 //! Until the last step that area is blank in every image, so that the other one is in force. From then on it is in force itself,
 //! and has the same messages pending.
-ghost use Rattle.std.specs.Prelude.{◌≡◌, ◌≢◌, ◌≤◌, ◌<◌, ◌+◌, ◌-◌, ◌%◌, ◌^◌, ◌++◌, ◌==◌, if◌then◌else◌, List, [], length, take, drop, map, All, IfErr, IfSome, OnOk, sum_by};
+ghost use Rattle.std.specs.Prelude.{◌≡◌, ◌≢◌, ◌≤◌, ◌<◌, ◌+◌, ◌-◌, ◌%◌, ◌^◌, ◌++◌, ◌==◌, if◌then◌else◌, ℕ, List, [], length, take, drop, map, All, IfErr, IfSome, OnOk, sum_by};
 ghost use Rattle.kumo_base.specs.Causes.{HasCause};
 ghost use Rattle.kumo_disk.specs.Disk.{area_of, Same};
 ghost use Rattle.kumo_disk.specs.Calls.{Ran};
@@ -89,9 +89,10 @@ fn make_room(pending: &Pending, payload: &mut Vec<u8>) -> Result<(), Memory>
     Ok(())
 }
 
-// No payload is longer.
+// The length of the longest payload, or 0.
 fn largest(pending: &Pending) -> u32
-    ensures { All (λ p. p.size ≤ result) pending.now }
+    ensures bound { All (λ p. p.size ≤ result) pending.now }
+    ensures least { (n : ℕ) → All (λ p. p.size ≤ n) pending.now → result ≤ n }
 {
     let mut most = 0;
     let mut walk = pending.walk();
