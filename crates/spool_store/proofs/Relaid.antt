@@ -11,29 +11,29 @@ use Rattle.spool_format.specs.declared.deferred.Deferral.{Deferral}
 use Rattle.spool_format.specs.declared.kept.Kept.{Kept}
 use Rattle.spool_format.proofs.SmallLemmas.{deferred_again, deferred_length}
 use Rattle.spool_index.specs.declared.place.Place.{Place}
-use Rattle.spool_index.specs.Places.{are_distinct, compacted_cost}
+use Rattle.spool_index.specs.Places.{are_distinct, compacted_cost, after_place, laid_out}
 use Rattle.spool_index.proofs.PlaceLemmas.{distinct_parts, distinct_instead}
 use Rattle.spool_store.specs.Content.{Item, fresh, kept_of, place_of, places_of, with_deferral, deferred, has_item, hold_in, defer_in, after, and_then, played}
 use Rattle.spool_store.specs.Store.{unplaced}
-use Rattle.spool_store.specs.inside.Rewriting.{deferral_of, copy_of, copies_of, AreWithin, laid_out}
+use Rattle.spool_store.specs.inside.Rewriting.{deferral_of, copy_of, copies_of, AreWithin}
 use Rattle.spool_store.proofs.Pieces.{deferral, IsHeldAt, AreHeld, AreGood, places_push}
 
 -- the same messages, whose records stand one after the other from an offset on
 abbrev pub relaid : ℕ → List Item → List Item
 relaid at [] = []
-relaid at (i ∷ items) = (record { at = at + 6; kept = i.kept }) ∷ relaid (at + compacted_cost (place_of i)) items
+relaid at (i ∷ items) = (record { at = at + 6; kept = i.kept }) ∷ relaid (after_place at (place_of i)) items
 
 pub kept_relaid : (at : ℕ) (items : List Item) → kept_of (relaid at items) ≡ kept_of items
 kept_relaid at [] = refl
-kept_relaid at (i ∷ items) = ap (λ (l : List Kept). i.kept ∷ l) (kept_relaid (at + compacted_cost (place_of i)) items)
+kept_relaid at (i ∷ items) = ap (λ (l : List Kept). i.kept ∷ l) (kept_relaid (after_place at (place_of i)) items)
 
 pub places_relaid : (at : ℕ) (items : List Item) → places_of (relaid at items) ≡ laid_out at (places_of items)
 places_relaid at [] = refl
-places_relaid at (i ∷ items) = ap (λ (l : List Place). (record (place_of i) { at = at + 6 }) ∷ l) (places_relaid (at + compacted_cost (place_of i)) items)
+places_relaid at (i ∷ items) = ap (λ (l : List Place). (record (place_of i) { at = at + 6 }) ∷ l) (places_relaid (after_place at (place_of i)) items)
 
 pub unplaced_laid : (at : ℕ) (ps : List Place) → map unplaced (laid_out at ps) ≡ map unplaced ps
 unplaced_laid at [] = refl
-unplaced_laid at (p ∷ ps) = ap (λ (l : List Place). unplaced p ∷ l) (unplaced_laid (at + compacted_cost p) ps)
+unplaced_laid at (p ∷ ps) = ap (λ (l : List Place). unplaced p ∷ l) (unplaced_laid (after_place at p) ps)
 
 pub are_within : (bytes : List ℕ) (items : List Item) → AreHeld bytes items → AreWithin bytes (places_of items)
 are_within bytes [] held = tt
@@ -144,7 +144,7 @@ copies_played bytes at done (i ∷ items) held distinct =
     ∙ distinct_instead (places_of done) (place_of i) (place_of now) (places_of items) refl ∙ distinct in
     copy_played bytes at done i held.0 parts.0 (copies_of bytes (places_of items))
     ∙ copies_played bytes (at + compacted_cost (place_of i)) (done ++ now ∷ []) items held.1 still
-    ∙ ap (λ (l : List Item). Some l) (append_assoc done (now ∷ []) (relaid (at + compacted_cost (place_of i)) items))
+    ∙ ap (λ (l : List Item). Some l) (append_assoc done (now ∷ []) (relaid (after_place at (place_of i)) items))
 
 pub all_played : (bytes : List ℕ) (items : List Item) → AreGood bytes items → played 2 16 [] (copies_of bytes (places_of items)) ≡ Some (relaid 16 items)
 all_played bytes items good = copies_played bytes 16 [] items good.held good.distinct

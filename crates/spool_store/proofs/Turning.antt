@@ -17,11 +17,12 @@ use Rattle.spool_log.specs.declared.log.Log.{Log}
 use Rattle.spool_log.proofs.Forms.{blank_shut}
 use Rattle.spool_format.specs.declared.kept.Kept.{Kept}
 use Rattle.spool_index.specs.declared.place.Place.{Place}
+use Rattle.spool_index.specs.Places.{laid_out}
 use Rattle.spool_store.specs.Content.{Item, kept_of, places_of, played}
 use Rattle.spool_store.specs.Reading.{Sound, Broken, InForce, by_generation, force_of, force_in, Recovers, HasContent}
 use Rattle.spool_store.specs.Crash.{IsOnDisk, Since, StandsForRead}
 use Rattle.spool_store.specs.inside.Standing.{Standing, Stands}
-use Rattle.spool_store.specs.inside.Rewriting.{copies_of, laid_out, AreWithin}
+use Rattle.spool_store.specs.inside.Rewriting.{copies_of, AreWithin}
 use Rattle.spool_store.proofs.Unique.{reads_same, kept_same}
 use Rattle.spool_store.proofs.Forces.{start_form, standing_reads, next_in_force, next_in_force_first}
 use Rattle.spool_store.proofs.Pieces.{AreGood, good_form}

@@ -8,8 +8,8 @@ ghost use Rattle.kumo_disk.specs.Disk.{area_of, Same};
 ghost use Rattle.kumo_disk.specs.Calls.{Ran};
 ghost use Rattle.spool_log.specs.Area.{LogRecord};
 ghost use Rattle.spool_log.specs.Log.{IsDraft, HasDraft, StaysShut};
-ghost use Rattle.spool_index.specs.Places.{compacted_cost, compacted_size};
-ghost use Rattle.spool_store.specs.inside.Rewriting.{deferral_of, copy_of, copies_of, AreWithin, laid_out, WhereMemory, HasRewriteCause};
+ghost use Rattle.spool_index.specs.Places.{compacted_cost, compacted_size, laid_out};
+ghost use Rattle.spool_store.specs.inside.Rewriting.{deferral_of, copy_of, copies_of, AreWithin, WhereMemory, HasRewriteCause};
 ghost use Rattle.spool_format.specs.declared.kept.Kept.{Kept};
 ghost use Rattle.spool_store.specs.Reading.{HasContent};
 ghost use Rattle.spool_store.specs.Store.{unplaced};
@@ -37,7 +37,7 @@ pub fn rewrite<D: Disk>(
     requires { Stands log.old pending.old (D.seen disk.old) }
     ensures since { Since StandsForRead (D.seen disk.old) (D.seen disk.new) }
     ensures content { (kept : List Kept) → HasContent kept (D.seen disk.old) → HasContent kept (D.seen disk.new) }
-    ensures stands { OnOk result (Stands log.new (laid_out 16 pending.new) (D.seen disk.new)) }
+    ensures stands { OnOk result (Stands log.new pending.new (D.seen disk.new)) }
     ensures pending { OnOk result (map unplaced pending.new ≡ map unplaced pending.old) }
     ensures log { OnOk result ((log.new.header.version ≡ 2) × (log.new.end + 1 ≡ compacted_size pending.old)) }
     ensures next { OnOk result ((log.new.area ≡ 1 - log.old.area)
@@ -49,7 +49,10 @@ pub fn rewrite<D: Disk>(
         return Err(RewriteFault::Memory);
     }
     match write_anew(disk, log, pending, payload) {
-        Ok(()) => Ok(()),
+        Ok(()) => {
+            pending.relocate();
+            Ok(())
+        }
         Err(_) => Err(RewriteFault::DiskFault),
     }
 }

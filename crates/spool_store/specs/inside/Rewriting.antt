@@ -1,10 +1,9 @@
--- Pending messages that are written anew: their records, their places, and what it answers.
+-- Pending messages that are written anew: their records, and what is answered.
 use Rattle.std.specs.Prelude.{ℕ, ◌+◌, ◌≤◌, ◌==◌, List, [], ◌∷◌, ◌++◌, length, take, drop, if◌then◌else◌, Result, IfErr, ⊤}
 use Rattle.kumo_base.specs.Causes.{Rose}
 use Rattle.spool_log.specs.Area.{LogRecord}
 use Rattle.spool_format.specs.Deferred.{deferred_payload}
 use Rattle.spool_index.specs.declared.place.Place.{Place}
-use Rattle.spool_index.specs.Places.{compacted_cost}
 use Rattle.spool_store.specs.declared.faults.RewriteFault.{RewriteFault}
 use Rattle.spool_store.specs.declared.faults.RewriteFault.TheVariants as fault
 
@@ -26,11 +25,6 @@ copies_of bytes (p ∷ ps) = copy_of bytes p ++ copies_of bytes ps
 abbrev pub AreWithin : List ℕ → List Place → Type 0
 AreWithin bytes [] = ⊤
 AreWithin bytes (p ∷ ps) = (p.at + p.size ≤ length bytes) × AreWithin bytes ps
-
--- the places of these messages, where their records stand one after the other from an offset on
-abbrev pub laid_out : ℕ → List Place → List Place
-laid_out at [] = []
-laid_out at (p ∷ ps) = (record p { at = at + 6 }) ∷ laid_out (at + compacted_cost p) ps
 
 -- this holds where there was no memory
 abbrev pub WhereMemory : Type 0 → RewriteFault → Type 0

@@ -1,3 +1,8 @@
+use Rattle.std.proofs.Common.{List, map, ap, sym, subst, ◌∙◌}
+use Rattle.spool_index.specs.declared.place.Place.{Place}
+use Rattle.spool_store.specs.Store.{unplaced}
+use Rattle.spool_store.specs.inside.Standing.{Stands}
+use Rattle.spool_store.proofs.Relaid.{unplaced_laid}
 use Rattle.spool_store.proofs.Turning.{since_now, content_since}
 use Rattle.spool_store.proofs.rewrite.rewrite.Goals as goal
 
@@ -9,3 +14,9 @@ returns-in-Ok-clause-content g c = λ kept has. content_since kept (g.D.Disk.see
 
 pub returns-in-Err-clause-content : goal.returns-in-Err-clause-content
 returns-in-Err-clause-content g c = λ kept has. content_since kept (g.D.Disk.seen c.args.disk.now) (g.D.Disk.seen c.write_anew.new.disk) c.write_anew.ensures.since has
+
+pub returns-in-Ok-clause-stands : goal.returns-in-Ok-clause-stands
+returns-in-Ok-clause-stands g c = subst (λ (l : List Place). Stands c.write_anew.new.log l (g.D.Disk.seen c.write_anew.new.disk)) (sym c.relocate.ensures) c.in-Ok.ensures.stands
+
+pub returns-in-Ok-clause-pending : goal.returns-in-Ok-clause-pending
+returns-in-Ok-clause-pending g c = ap (λ (l : List Place). map unplaced l) c.relocate.ensures ∙ unplaced_laid 16 c.args.pending.now

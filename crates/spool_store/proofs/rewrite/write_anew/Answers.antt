@@ -7,7 +7,8 @@ use Rattle.spool_log.specs.Head.{Clears}
 use Rattle.spool_log.specs.Log.{IsReady, IsDraft}
 use Rattle.spool_log.specs.declared.draft.Draft.{Draft}
 use Rattle.spool_log.specs.declared.log.Log.{Log}
-use Rattle.spool_store.specs.inside.Rewriting.{copies_of, AreWithin, laid_out}
+use Rattle.spool_index.specs.Places.{laid_out}
+use Rattle.spool_store.specs.inside.Rewriting.{copies_of, AreWithin}
 use Rattle.spool_store.specs.inside.Standing.{Stands}
 use Rattle.spool_store.proofs.Turning.{other_below, other_apart, clears_begin, copied_ran, opened_ran, carried, carried_back, pieces_within, since_clears, since_turns, stands_turned}
 use Rattle.spool_store.proofs.rewrite.write_anew.Goals as goal
