@@ -192,6 +192,10 @@ module _ (log : Log) (places : List Place) (a : DiskSeen) (stands : Stands log p
       let here = good_read read told in
       subst (λ (l : List Place). AreWithin (area_of log.area read) l) (sym here.2) (are_within (area_of log.area read) here.0 here.3.held))
 
+  pub other_durable : IsDurable o a
+  other_durable = if_some (λ read. (image : Image) → a.left a.moment image → area_of o image ≡ area_of o read) a.told (λ read told image left.
+      ap (λ (i : Image). area_of o i) (at_some (λ read. (image : Image) → a.left a.moment image → image ≡ read) a.told read told stands.on_disk image left))
+
   -- what a crash left since then comes from what was read
   from_read : (step : List ℕ → List ℕ → Type 0) (b : DiskSeen) → Ran o step a b → (read : Image) → a.told ≡ Some read → (image : Image) → b.left a.moment image → Moved o step read image
   from_read step b ran read told image left =

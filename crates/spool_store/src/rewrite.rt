@@ -2,11 +2,12 @@
 //!
 //! Until the last step that area is blank in every image, so that the other one is in force. From then on it is in force itself,
 //! and has the same messages pending.
-ghost use Rattle.std.specs.Prelude.{◌≡◌, ◌≢◌, ◌≤◌, ◌<◌, ◌+◌, ◌-◌, ◌%◌, ◌^◌, ◌++◌, ◌==◌, if◌then◌else◌, ℕ, List, [], length, take, drop, map, All, IfErr, IfSome, OnOk, sum_by};
+ghost use Rattle.std.specs.Prelude.{◌≡◌, ◌≢◌, ◌≤◌, ◌<◌, ◌+◌, ◌-◌, ◌%◌, ◌^◌, ◌++◌, ◌==◌, if◌then◌else◌, ℕ, List, [], length, take, drop, map, All, IfOk, IfErr, IfSome, OnOk, sum_by};
 ghost use Rattle.kumo_base.specs.Causes.{HasCause};
-ghost use Rattle.kumo_disk.specs.Disk.{area_of, Same};
+ghost use Rattle.kumo_disk.specs.Disk.{area_of, Same, IsDurable};
 ghost use Rattle.kumo_disk.specs.Calls.{Ran};
 ghost use Rattle.spool_log.specs.Area.{LogRecord};
+ghost use Rattle.spool_log.specs.Head.{Clears};
 ghost use Rattle.spool_log.specs.Log.{IsDraft, HasDraft, StaysShut};
 ghost use Rattle.spool_index.specs.Places.{compacted_cost, compacted_size, laid_out};
 ghost use Rattle.spool_store.specs.inside.Rewriting.{deferral_of, copy_of, copies_of, AreWithin, WhereMemory, HasRewriteCause};
@@ -27,7 +28,7 @@ use spool_log::{Draft, Log, clear};
 /// is emptied first, and its memory is used again.
 ///
 /// In each image since the call began the same messages are pending. At `Memory` nothing was done. At `DiskFault` the count of
-/// faults has risen, and neither the log nor the disk is used again.
+/// faults has risen, and neither the log nor the disk is to be used again.
 pub fn rewrite<D: Disk>(
     disk: &mut D,
     log: &mut Log,
@@ -57,7 +58,7 @@ pub fn rewrite<D: Disk>(
     }
 }
 
-// Writes the messages into the other area, which is then in force. On the log's area nothing changes.
+// Writes the messages into the other area, which is then in force.
 fn write_anew<D: Disk>(
     disk: &mut D,
     log: &mut Log,
@@ -75,12 +76,38 @@ fn write_anew<D: Disk>(
     }) }
     ensures cause { HasCause (D.seen disk.old).faults (D.seen disk.new).faults result }
 {
+    let draft = draft_anew(disk, *log, pending, payload)?;
+    *log = draft.open(disk)?;
+    Ok(())
+}
+
+// Makes a draft of all messages in the other area, which was emptied before.
+fn draft_anew<D: Disk>(
+    disk: &mut D,
+    log: Log,
+    pending: &Pending,
+    payload: &mut [u8],
+) -> Result<Draft, Failed>
+    requires area { log.area < 2 }
+    requires durable { IsDurable (1 - log.area) (D.seen disk.old) }
+    requires room { All (λ p. p.size ≤ length payload.old) pending.now }
+    requires within { IfSome (D.seen disk.old).told (λ read. AreWithin (area_of log.area read) pending.now) }
+    ensures ran { Ran (1 - log.area) Clears (D.seen disk.old) (D.seen disk.new) }
+    ensures draft { IfOk result (λ draft. IfSome (D.seen disk.old).told (λ read.
+        IsDraft draft (copies_of (area_of log.area read) pending.now) (D.seen disk.new))) }
+    ensures has { IfOk result (λ draft. HasDraft draft (D.seen disk.new)) }
+    ensures made { IfOk result (λ draft. draft ≡ record {
+      area = 1 - log.area;
+      header = record { version = 2; generation = (log.header.generation + 1) % 2 ^ 64 };
+      end = 16 + sum_by compacted_cost pending.now;
+    }) }
+    ensures cause { HasCause (D.seen disk.old).faults (D.seen disk.new).faults result }
+{
     let other = 1 - log.area;
     clear(disk, other)?;
     let mut draft = Draft::begin(disk, other, log.header.generation.wrapping_add(1))?;
     copy_all(disk, log.area, pending, &mut draft, payload)?;
-    *log = draft.open(disk)?;
-    Ok(())
+    Ok(draft)
 }
 
 // A buffer for the payload of each message. After `Memory` it has any bytes.
