@@ -1,5 +1,4 @@
-use Rattle.std.proofs.Common.{◌≡◌, ◌-◌, ◌∙◌, [], List, ℕ, ap, sym}
-use Rattle.kumo_disk.specs.Calls.{Ran}
+use Rattle.std.proofs.Common.{◌-◌, [], ℕ, ap, sym}
 use Rattle.spool_log.specs.Head.{Clears}
 use Rattle.spool_log.specs.Log.{IsDraft}
 use Rattle.spool_log.specs.declared.draft.Draft.{Draft}
@@ -10,7 +9,7 @@ use Rattle.spool_store.proofs.rewrite.draft_anew.Goals as goal
 pub returns-in_err-draft-clause-ran : goal.returns-in_err-draft-clause-ran
 returns-in_err-draft-clause-ran g c =
     clears_begin (1 - c.args.log.area) (g.D.Disk.seen c.args.disk.now) (g.D.Disk.seen c.clear.new.disk) (g.D.Disk.seen c.begin.new.disk)
-        c.in_ok-clear.ensures.short c.in_ok-clear.ensures.durable c.clear.ensures.ran c.begin.ensures.ran
+    c.in_ok-clear.ensures.short c.in_ok-clear.ensures.durable c.clear.ensures.ran c.begin.ensures.ran
 
 pub copy_all-requires-clause-within : goal.copy_all-requires-clause-within
 copy_all-requires-clause-within g c =
@@ -18,18 +17,18 @@ copy_all-requires-clause-within g c =
     let a = g.D.Disk.seen c.args.disk.now in
     let m = g.D.Disk.seen c.begin.new.disk in
     carried area (1 - area) Clears (λ bytes. AreWithin bytes c.args.pending.now) a m (λ is. other_apart area c.requires.area (sym is))
-        (clears_begin (1 - area) a (g.D.Disk.seen c.clear.new.disk) m c.in_ok-clear.ensures.short c.in_ok-clear.ensures.durable c.clear.ensures.ran c.begin.ensures.ran)
-        c.requires.within
+    (clears_begin (1 - area) a (g.D.Disk.seen c.clear.new.disk) m c.in_ok-clear.ensures.short c.in_ok-clear.ensures.durable c.clear.ensures.ran c.begin.ensures.ran)
+    c.requires.within
 
 pub returns-in_err-copy_all-clause-ran : goal.returns-in_err-copy_all-clause-ran
 returns-in_err-copy_all-clause-ran g c =
     copied_ran (1 - c.args.log.area) c.in_ok-draft.draft [] (g.D.Disk.seen c.args.disk.now) (g.D.Disk.seen c.clear.new.disk) (g.D.Disk.seen c.begin.new.disk) (g.D.Disk.seen c.copy_all.new.disk)
-        c.in_ok-clear.ensures.short c.in_ok-clear.ensures.durable c.clear.ensures.ran c.begin.ensures.ran (ap (λ (d : Draft). d.area) c.in_ok-draft.ensures.made) c.in_ok-draft.ensures.draft c.copy_all.ensures.ran
+    c.in_ok-clear.ensures.short c.in_ok-clear.ensures.durable c.clear.ensures.ran c.begin.ensures.ran (ap (λ (d : Draft). d.area) c.in_ok-draft.ensures.made) c.in_ok-draft.ensures.draft c.copy_all.ensures.ran
 
 pub returns-clause-ran : goal.returns-clause-ran
 returns-clause-ran g c =
     copied_ran (1 - c.args.log.area) c.in_ok-draft.draft [] (g.D.Disk.seen c.args.disk.now) (g.D.Disk.seen c.clear.new.disk) (g.D.Disk.seen c.begin.new.disk) (g.D.Disk.seen c.copy_all.new.disk)
-        c.in_ok-clear.ensures.short c.in_ok-clear.ensures.durable c.clear.ensures.ran c.begin.ensures.ran (ap (λ (d : Draft). d.area) c.in_ok-draft.ensures.made) c.in_ok-draft.ensures.draft c.copy_all.ensures.ran
+    c.in_ok-clear.ensures.short c.in_ok-clear.ensures.durable c.clear.ensures.ran c.begin.ensures.ran (ap (λ (d : Draft). d.area) c.in_ok-draft.ensures.made) c.in_ok-draft.ensures.draft c.copy_all.ensures.ran
 
 pub returns-clause-draft : goal.returns-clause-draft
 returns-clause-draft g c =
@@ -38,5 +37,5 @@ returns-clause-draft g c =
     let m = g.D.Disk.seen c.begin.new.disk in
     let d = g.D.Disk.seen c.copy_all.new.disk in
     carried_back area (1 - area) Clears (λ bytes. IsDraft c.copy_all.new.draft (copies_of bytes c.args.pending.now) d) a m (λ is. other_apart area c.requires.area (sym is))
-        (clears_begin (1 - area) a (g.D.Disk.seen c.clear.new.disk) m c.in_ok-clear.ensures.short c.in_ok-clear.ensures.durable c.clear.ensures.ran c.begin.ensures.ran)
-        c.in_ok-copy_all.ensures.draft
+    (clears_begin (1 - area) a (g.D.Disk.seen c.clear.new.disk) m c.in_ok-clear.ensures.short c.in_ok-clear.ensures.durable c.clear.ensures.ran c.begin.ensures.ran)
+    c.in_ok-copy_all.ensures.draft

@@ -1,4 +1,4 @@
-use Rattle.std.proofs.Common.{◌≡◌, ◌-◌, ◌<◌, ◌∙◌, List, ℕ, ap, sym, subst, IfSome}
+use Rattle.std.proofs.Common.{◌≡◌, ◌-◌, ◌<◌, ◌∙◌, ℕ, ap, sym, subst, IfSome}
 use Rattle.kumo_disk.specs.Disk.{area_of}
 use Rattle.kumo_disk.proofs.Known.{told_after}
 use Rattle.spool_log.specs.Area.{Form}
@@ -38,8 +38,8 @@ returns-in_err-log-clause-since g c =
     let d = g.D.Disk.seen c.draft_anew.new.disk in
     let e = g.D.Disk.seen c.open.new.disk in
     since_turns log c.args.pending.now a c.requires.stands (1 - log.area) (other_below log.area lt) (other_apart log.area lt) draft d e
-        (ap (λ (d : Draft). d.header.version) made) (ap (λ (d : Draft). d.header.generation) made) c.in_ok-draft.ensures.has c.in_ok-draft.ensures.draft
-        (opened_ran (1 - log.area) draft a d e (ap (λ (d : Draft). d.area) made) c.draft_anew.ensures.ran c.open.ensures.ran)
+    (ap (λ (d : Draft). d.header.version) made) (ap (λ (d : Draft). d.header.generation) made) c.in_ok-draft.ensures.has c.in_ok-draft.ensures.draft
+    (opened_ran (1 - log.area) draft a d e (ap (λ (d : Draft). d.area) made) c.draft_anew.ensures.ran c.open.ensures.ran)
 
 pub returns-clause-since : goal.returns-clause-since
 returns-clause-since g c =
@@ -51,8 +51,8 @@ returns-clause-since g c =
     let d = g.D.Disk.seen c.draft_anew.new.disk in
     let e = g.D.Disk.seen c.open.new.disk in
     since_turns log c.args.pending.now a c.requires.stands (1 - log.area) (other_below log.area lt) (other_apart log.area lt) draft d e
-        (ap (λ (d : Draft). d.header.version) made) (ap (λ (d : Draft). d.header.generation) made) c.in_ok-draft.ensures.has c.in_ok-draft.ensures.draft
-        (opened_ran (1 - log.area) draft a d e (ap (λ (d : Draft). d.area) made) c.draft_anew.ensures.ran c.open.ensures.ran)
+    (ap (λ (d : Draft). d.header.version) made) (ap (λ (d : Draft). d.header.generation) made) c.in_ok-draft.ensures.has c.in_ok-draft.ensures.draft
+    (opened_ran (1 - log.area) draft a d e (ap (λ (d : Draft). d.area) made) c.draft_anew.ensures.ran c.open.ensures.ran)
 
 pub returns-clause-stands : goal.returns-clause-stands
 returns-clause-stands g c =
@@ -65,11 +65,11 @@ returns-clause-stands g c =
     let e = g.D.Disk.seen c.open.new.disk in
     let here : draft.area ≡ 1 - log.area = ap (λ (d : Draft). d.area) made in
     let is : c.in_ok-log.field-0 ≡ record { area = 1 - log.area; header = draft.header; end = draft.end } =
-        c.in_ok-log.ensures.log ∙ ap (λ (k : ℕ). record { area = k; header = draft.header; end = draft.end }) here in
+    c.in_ok-log.ensures.log ∙ ap (λ (k : ℕ). record { area = k; header = draft.header; end = draft.end }) here in
     subst (λ (l : Log). Stands l (laid_out 16 c.args.pending.now) e) (sym is)
-        (stands_turned log c.args.pending.now a c.requires.stands (1 - log.area) (other_below log.area lt) (other_apart log.area lt) draft d e
-            (ap (λ (d : Draft). d.header.version) made) (ap (λ (d : Draft). d.header.generation) made) c.in_ok-draft.ensures.has c.in_ok-draft.ensures.draft
-            (opened_ran (1 - log.area) draft a d e here c.draft_anew.ensures.ran c.open.ensures.ran)
-            (subst (λ (l : Log). IsReady l e) is c.in_ok-log.ensures.ready)
-            (λ rs drafted. subst (λ (k : ℕ). IfSome e.told (λ now. Form draft.header rs draft.end (area_of k now))) here
-                (told_after draft.area (λ old new. Form draft.header rs draft.end new) (λ bytes. Form draft.header rs draft.end bytes) d e (λ read told l form. form) (c.in_ok-log.ensures.form rs drafted))))
+    (stands_turned log c.args.pending.now a c.requires.stands (1 - log.area) (other_below log.area lt) (other_apart log.area lt) draft d e
+    (ap (λ (d : Draft). d.header.version) made) (ap (λ (d : Draft). d.header.generation) made) c.in_ok-draft.ensures.has c.in_ok-draft.ensures.draft
+    (opened_ran (1 - log.area) draft a d e here c.draft_anew.ensures.ran c.open.ensures.ran)
+    (subst (λ (l : Log). IsReady l e) is c.in_ok-log.ensures.ready)
+    (λ rs drafted. subst (λ (k : ℕ). IfSome e.told (λ now. Form draft.header rs draft.end (area_of k now))) here
+    (told_after draft.area (λ old new. Form draft.header rs draft.end new) (λ bytes. Form draft.header rs draft.end bytes) d e (λ read told l form. form) (c.in_ok-log.ensures.form rs drafted))))
