@@ -6,9 +6,9 @@ use Rattle.std.proofs.Math.ListN.{get_or-append}
 use Rattle.indexmap.specs.IndexMap.{IndexMap, get, index_map_len}
 use Rattle.spool_index.specs.declared.place.Place.{Place}
 use Rattle.spool_index.specs.Places.{has, find, without, with_delay, delayed, are_distinct}
-use Rattle.spool_index.specs.Slots.{kept, Knows, Numbers, IsIndex}
-use Rattle.spool_index.proofs.PlaceLemmas.{has-append, has-find, find_between, without_between, delay_between, has_without, has_instead, distinct_instead, distinct_parts, distinct_push, sum_between}
-use Rattle.spool_index.proofs.KeptLemmas.{kept-append, before, behind, kept_at, kept_blank, kept_set, within_at, has_at, stands}
+use Rattle.spool_index.specs.Slots.{kept, slots_laid_out, Knows, Numbers, IsIndex}
+use Rattle.spool_index.proofs.PlaceLemmas.{has-append, has-find, find_between, without_between, delay_between, has_without, has_instead, distinct_instead, distinct_parts, distinct_push, sum_between, has_laid_out, distinct_laid_out, length_laid_out}
+use Rattle.spool_index.proofs.KeptLemmas.{kept-append, before, behind, kept_at, kept_blank, kept_set, within_at, has_at, stands, kept_laid_out, stood}
 
 -- the slot of this number holds the id
 abbrev pub Holds : ℕ → ℕ → List (Option Place) → Type 0
@@ -227,3 +227,15 @@ module _ {S : Type 0} where
   pub not_held : (m : IndexMap ℕ ℕ S) (slots : List (Option Place)) (id : ℕ) → IsIndex m slots → get nat_eq m id ≡ None → find id (kept slots) ≡ None
   not_held m slots id is none =
       none_from (find id (kept slots)) (has-find id (kept slots) ∙ sym (is.knows id) ∙ ap is_some none)
+
+  -- the messages are laid out in a file that is written anew: each stays in its slot
+  pub relocated : (m : IndexMap ℕ ℕ S) (at : ℕ) (slots : List (Option Place)) → IsIndex m slots → IsIndex m (slots_laid_out at slots)
+  relocated m at slots is =
+      record {
+        knows = λ q. is.knows q ∙ sym (has_laid_out q at (kept slots)) ∙ ap (has q) (sym (kept_laid_out at slots));
+        numbers = λ k q in_range here.
+            let old = stood at slots k q here in
+            ap (get nat_eq m) (sym old.2) ∙ is.numbers k old.0 (within_at slots k old.0 old.1) old.1;
+        count = is.count ∙ sym (length_laid_out at (kept slots)) ∙ ap length (sym (kept_laid_out at slots));
+        distinct = ap are_distinct (kept_laid_out at slots) ∙ distinct_laid_out at (kept slots) ∙ is.distinct;
+      }

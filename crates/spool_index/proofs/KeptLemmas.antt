@@ -1,9 +1,9 @@
 -- Slots cut at one that is not blank.
-use Rattle.std.proofs.Common.{◌≡◌, ◌<◌, ℕ, zero, suc, List, [], ◌∷◌, ◌++◌, true, eqb, Option, Some, None, length, get_or, set, take, drop, filter, is_some, refl, ap, ⊎_elim, arith}
+use Rattle.std.proofs.Common.{◌≡◌, ◌<◌, ◌+◌, ℕ, zero, suc, List, [], ◌∷◌, ◌++◌, true, eqb, Option, Some, None, length, get_or, set, take, drop, filter, is_some, refl, ap, ⊎_elim, arith}
 use Rattle.std.proofs.lemmas.Bool.{or_cases, eqb-true, or_left, or_right, eq-eqb}
 use Rattle.spool_index.specs.declared.place.Place.{Place}
-use Rattle.spool_index.specs.Places.{has}
-use Rattle.spool_index.specs.Slots.{kept}
+use Rattle.spool_index.specs.Places.{has, after_place, laid_out}
+use Rattle.spool_index.specs.Slots.{kept, slots_laid_out}
 
 pub kept-append : (xs ys : List (Option Place)) → kept (xs ++ ys) ≡ kept xs ++ kept ys
 kept-append [] ys = refl
@@ -65,3 +65,27 @@ stands id (None ∷ xs) is = let at = stands id xs is in (suc at.0, at.1, at.2, 
 stands id (Some q ∷ xs) is =
     ⊎_elim (λ here. (0, q, refl, eqb-true q.id id here)) (λ later. let at = stands id xs later in (suc at.0, at.1, at.2, at.3))
     (or_cases (eqb q.id id) (has id (kept xs)) is)
+
+-- slots laid out in a file that is written anew
+pub kept_laid_out : (at : ℕ) (xs : List (Option Place)) → kept (slots_laid_out at xs) ≡ laid_out at (kept xs)
+kept_laid_out at [] = refl
+kept_laid_out at (None ∷ xs) = kept_laid_out at xs
+kept_laid_out at (Some p ∷ xs) = ap (λ l. record p { at = at + 6 } ∷ l) (kept_laid_out (after_place at p) xs)
+
+pub length_slots_laid_out : (at : ℕ) (xs : List (Option Place)) → length (slots_laid_out at xs) ≡ length xs
+length_slots_laid_out at [] = refl
+length_slots_laid_out at (None ∷ xs) = ap suc (length_slots_laid_out at xs)
+length_slots_laid_out at (Some p ∷ xs) = ap suc (length_slots_laid_out (after_place at p) xs)
+
+-- what a slot held before, where it now holds a message: one of its id
+abbrev pub Stood : ℕ → List (Option Place) → ℕ → Type 0
+Stood id xs k = (p : Place) × (get_or xs k None ≡ Some p) × (p.id ≡ id)
+
+pub stood : (at : ℕ) (xs : List (Option Place)) (k : ℕ) (q : Place) → get_or (slots_laid_out at xs) k None ≡ Some q → Stood q.id xs k
+stood at [] k q is = absurd cc
+stood at (None ∷ xs) zero q is = absurd cc
+stood at (Some p ∷ xs) zero q is =
+    let same : record p { at = at + 6 } ≡ q = cc in
+    (p, refl, ap (λ x. x.id) same)
+stood at (None ∷ xs) (suc k) q is = stood at xs k q is
+stood at (Some p ∷ xs) (suc k) q is = stood (after_place at p) xs k q is

@@ -1,11 +1,11 @@
 -- A list of places cut at a message, and what a look at it, its settling and its delay come to there.
-use Rattle.std.proofs.Common.{◌≡◌, ◌≤◌, ◌+◌, ℕ, List, [], ◌∷◌, ◌++◌, Bool, true, false, not, ◌&&◌, ◌||◌, cond, eqb, Option, Some, refl, sym, ap, ◌∙◌, arith, is_some, sum_by}
+use Rattle.std.proofs.Common.{◌≡◌, ◌≤◌, ◌+◌, ℕ, suc, length, List, [], ◌∷◌, ◌++◌, Bool, true, false, not, ◌&&◌, ◌||◌, cond, eqb, Option, Some, refl, sym, ap, ◌∙◌, arith, is_some, sum_by}
 use Rattle.std.proofs.lemmas.Bool.{and_parts, and_from, or_parts, or_from, not-true, not_from_false, eqb-true, eq-eqb}
 use Rattle.std.proofs.lemmas.Bool.Decides.{nat_tests}
 use Rattle.std.proofs.lemmas.List.Folds.{list_any-append}
 use Rattle.std.proofs.lemmas.List.Sums.{sum_by-append, sum_by-cons, sum_by-le-sum_by}
 use Rattle.spool_index.specs.declared.place.Place.{Place}
-use Rattle.spool_index.specs.Places.{has, find, are_distinct, without, with_delay, delayed, live_cost, compacted_cost, live_size, compacted_size}
+use Rattle.spool_index.specs.Places.{has, find, are_distinct, without, with_delay, delayed, live_cost, compacted_cost, live_size, compacted_size, after_place, after_all, laid_out}
 
 pub has-append : (id : ℕ) (xs ys : List Place) → has id (xs ++ ys) ≡ (has id xs || has id ys)
 has-append id xs ys = list_any-append (λ p. eqb p.id id) xs ys
@@ -128,3 +128,50 @@ sum_delay f id failures due [] p found = absurd cc
 sum_delay f id failures due (x ∷ xs) p found =
     sum_changed f (eqb x.id id) x p (delayed failures due x) (delayed failures due p) xs (with_delay id failures due xs) (find id xs) found
     (λ one. ap (delayed failures due) one) (sum_delay f id failures due xs p)
+
+-- messages laid out in a file that is written anew: their ids and sizes do not change
+pub has_laid_out : (id at : ℕ) (ps : List Place) → has id (laid_out at ps) ≡ has id ps
+has_laid_out id at [] = refl
+has_laid_out id at (p ∷ ps) = ap (λ b. eqb p.id id || b) (has_laid_out id (after_place at p) ps)
+
+pub distinct_laid_out : (at : ℕ) (ps : List Place) → are_distinct (laid_out at ps) ≡ are_distinct ps
+distinct_laid_out at [] = refl
+distinct_laid_out at (p ∷ ps) =
+    ap (λ b. not b && are_distinct (laid_out (after_place at p) ps)) (has_laid_out p.id (after_place at p) ps)
+    ∙ ap (λ b. not (has p.id ps) && b) (distinct_laid_out (after_place at p) ps)
+
+pub length_laid_out : (at : ℕ) (ps : List Place) → length (laid_out at ps) ≡ length ps
+length_laid_out at [] = refl
+length_laid_out at (p ∷ ps) = ap suc (length_laid_out (after_place at p) ps)
+
+-- a sum of what does not depend on where a message stands
+pub sum_laid_out : (f : Place → ℕ) → ((p : Place) (x : ℕ) → f (record p { at = x }) ≡ f p) → (at : ℕ) (ps : List Place)
+    → sum_by f (laid_out at ps) ≡ sum_by f ps
+sum_laid_out f same at [] = refl
+sum_laid_out f same at (p ∷ ps) =
+    let moved = record p { at = at + 6 } in
+    let rest = sum_laid_out f same (after_place at p) ps in
+    let here = same p (at + 6) in
+    omega (arith, here, rest, sum_by-cons f moved (laid_out (after_place at p) ps), sum_by-cons f p ps)
+
+pub live_size_laid_out : (at : ℕ) (ps : List Place) → live_size (laid_out at ps) ≡ live_size ps
+live_size_laid_out at ps = ap (λ n. 17 + n) (sum_laid_out live_cost (λ p x. refl) at ps)
+
+pub compacted_size_laid_out : (at : ℕ) (ps : List Place) → compacted_size (laid_out at ps) ≡ compacted_size ps
+compacted_size_laid_out at ps = ap (λ n. 17 + n) (sum_laid_out compacted_cost (λ p x. refl) at ps)
+
+pub laid_out-append : (at : ℕ) (ps qs : List Place) → laid_out at (ps ++ qs) ≡ laid_out at ps ++ laid_out (after_all at ps) qs
+laid_out-append at [] qs = refl
+laid_out-append at (p ∷ ps) qs = ap (λ l. record p { at = at + 6 } ∷ l) (laid_out-append (after_place at p) ps qs)
+
+pub after_all-append : (at : ℕ) (ps qs : List Place) → after_all at (ps ++ qs) ≡ after_all (after_all at ps) qs
+after_all-append at [] qs = refl
+after_all-append at (p ∷ ps) qs = after_all-append (after_place at p) ps qs
+
+pub after_all_sum : (at : ℕ) (ps : List Place) → after_all at ps ≡ at + sum_by compacted_cost ps
+after_all_sum at [] = omega arith
+after_all_sum at (p ∷ ps) = omega (arith, after_all_sum (after_place at p) ps, sum_by-cons compacted_cost p ps)
+
+-- behind the last record one byte is left of the size
+pub after_all_size : (ps : List Place) → after_all 16 ps + 1 ≡ compacted_size ps
+after_all_size ps = omega (arith, after_all_sum 16 ps)

@@ -50,3 +50,17 @@ live_size places = 17 + sum_by live_cost places
 -- the bytes of a file that is written anew, with these messages pending
 abbrev pub compacted_size : List Place → ℕ
 compacted_size places = 17 + sum_by compacted_cost places
+
+-- the offset behind the records of a message in a file that is written anew, when they begin at this one
+abbrev pub after_place : ℕ → Place → ℕ
+after_place at p = at + compacted_cost p
+
+-- the offset behind the records of all messages
+abbrev pub after_all : ℕ → List Place → ℕ
+after_all at [] = at
+after_all at (p ∷ ps) = after_all (after_place at p) ps
+
+-- the messages, each with its payload where a file that is written anew has it, when the records begin at this offset
+abbrev pub laid_out : ℕ → List Place → List Place
+laid_out at [] = []
+laid_out at (p ∷ ps) = record p { at = at + 6 } ∷ laid_out (after_place at p) ps

@@ -1,14 +1,20 @@
 -- Slots in the order of holding, and an index that says in which slot each id stands.
-use Rattle.std.specs.Prelude.{◌≡◌, ◌<◌, ℕ, true, List, [], ◌∷◌, Option, Some, None, length, nat_eq, slice_index_or, is_some}
+use Rattle.std.specs.Prelude.{◌≡◌, ◌<◌, ◌+◌, ℕ, true, List, [], ◌∷◌, Option, Some, None, length, nat_eq, slice_index_or, is_some}
 use Rattle.indexmap.specs.IndexMap.{IndexMap, get, index_map_len}
 use Rattle.spool_index.specs.declared.place.Place.{Place}
-use Rattle.spool_index.specs.Places.{has, are_distinct, live_size, compacted_size}
+use Rattle.spool_index.specs.Places.{has, are_distinct, live_size, compacted_size, after_place}
 
 -- the messages in the slots that are not blank
 abbrev pub kept : List (Option Place) → List Place
 kept [] = []
 kept (None ∷ slots) = kept slots
 kept (Some p ∷ slots) = p ∷ kept slots
+
+-- the slots, each message with its payload where a file that is written anew has it
+abbrev pub slots_laid_out : ℕ → List (Option Place) → List (Option Place)
+slots_laid_out at [] = []
+slots_laid_out at (None ∷ slots) = None ∷ slots_laid_out at slots
+slots_laid_out at (Some p ∷ slots) = Some (record p { at = at + 6 }) ∷ slots_laid_out (after_place at p) slots
 
 module _ {S : Type 0} where
   -- the index knows the ids that stand in the slots, and no other

@@ -1,10 +1,9 @@
 //! The pending messages of a spool.
 ghost use Rattle.std.specs.Prelude.{◌≡◌, ◌∷◌, ◌++◌, [], true, false, length, is_some, IfSome, OnOk, OnErr};
-ghost use Rattle.spool_index.specs.Places as spec;
-ghost use Rattle.spool_index.specs.Places.{has, find, without, with_delay, are_distinct, live_size, compacted_size};
+ghost use Rattle.spool_index.specs.Places.{has, find, without, with_delay, are_distinct, live_size, compacted_size, laid_out};
 
-use crate::place::Place;
-use crate::slots::{held, vacate};
+use crate::place::{Place, compacted_cost, live_cost};
+use crate::slots::{held, lay_out, vacate};
 use crate::walk::Walk;
 use indexmap::IndexMap;
 use kumo_base::Memory;
@@ -101,6 +100,15 @@ impl Pending {
         }
     }
 
+    /// The file has been written anew: from offset 16 on, in the order of holding, the record of each message, and behind it
+    /// the record of its failures where it has some. Each message stands where its payload then is, and all else is as it
+    /// was. It takes no memory, and time for each message.
+    pub fn relocate(&mut self)
+        ensures { self.new ≡ laid_out 16 self.old }
+    {
+        lay_out(&mut self.slots);
+    }
+
     /// How many messages are pending.
     pub fn len(&self) -> usize
         ensures len { result ≡ length self.now }
@@ -130,24 +138,5 @@ impl Pending {
         Walk {
             slots: self.slots.as_slice(),
         }
-    }
-}
-
-/// What a message adds to the live size.
-fn live_cost(place: Place) -> u64
-    ensures { result ≡ spec.live_cost place }
-{
-    u64::from(place.size) + 96
-}
-
-/// What a message adds to the compacted size.
-fn compacted_cost(place: Place) -> u64
-    ensures { result ≡ spec.compacted_cost place }
-{
-    let record = u64::from(place.size) + 6;
-    if place.failures == 0 {
-        record
-    } else {
-        record + 34
     }
 }

@@ -2,12 +2,12 @@
 //!
 //! A settled message leaves its slot blank. Once the blank slots outnumber the others they are taken out, and the index
 //! numbers the slots that are left anew.
-ghost use Rattle.std.specs.Prelude.{◌≡◌, None, Some, IfSome, length, slice_index_or, true, option_map};
+ghost use Rattle.std.specs.Prelude.{◌≡◌, ◌<◌, ◌^◌, None, Some, IfSome, length, slice_index_or, true, option_map};
 ghost use Rattle.indexmap.specs.IndexMap.{index_map_len};
-ghost use Rattle.spool_index.specs.Places.{are_distinct, find, without};
-ghost use Rattle.spool_index.specs.Slots.{kept, Knows, IsIndex};
+ghost use Rattle.spool_index.specs.Places.{are_distinct, compacted_size, find, without};
+ghost use Rattle.spool_index.specs.Slots.{kept, slots_laid_out, Knows, IsIndex};
 
-use crate::place::Place;
+use crate::place::{Place, compacted_cost};
 use indexmap::IndexMap;
 
 /// The message of an id, and the number of its slot.
@@ -64,6 +64,23 @@ fn number(slots: &[Option<Place>], index: &mut IndexMap<u128, usize>)
     for (number, slot) in slots.iter().enumerate() {
         if let Some(place) = slot {
             let _noted = index.insert(place.id, number);
+        }
+    }
+}
+
+/// Each message stands where a file that is written anew has its payload.
+pub(crate) fn lay_out(slots: &mut [Option<Place>])
+    requires { compacted_size (kept slots.old) < 2 ^ 64 }
+    ensures { slots.new ≡ slots_laid_out 16 slots.old }
+{
+    let mut offset: u64 = 16;
+    for number in 0..slots.len() {
+        if let Some(place) = slots[number] {
+            slots[number] = Some(Place {
+                at: offset + 6,
+                ..place
+            });
+            offset += compacted_cost(place);
         }
     }
 }

@@ -16,7 +16,7 @@ use Rattle.spool_format.specs.declared.kept.Kept.{Kept}
 use Rattle.spool_index.specs.declared.place.Place.{Place}
 use Rattle.spool_store.specs.Content.{Item, after, played, kept_of, places_of}
 use Rattle.spool_store.specs.Reading.{Sound, Force, InForce, force_in, force_of, Reads, Recovers, HasContent}
-use Rattle.spool_store.specs.Crash.{IsOnDisk, Since}
+use Rattle.spool_store.specs.Crash.{IsOnDisk, Since, StandsForRead}
 use Rattle.spool_store.specs.inside.Standing.{Standing, Stands}
 use Rattle.spool_store.proofs.Unique.{kept_same}
 use Rattle.spool_store.proofs.Forces.{start_form, played_push, standing_reads}
@@ -193,3 +193,8 @@ module _ (log : Log) (places : List Place) (r : LogRecord) (a b : DiskSeen) (sta
         recovers_from now (next held.0) (more kept)
             (standing_reads log.area later.end log.header (next held.0) now stands.ready.area (standing_added log r held.0 (next held.0) stands.ready.area (gives held.0 held.2) before.0 held.1 later.end now before.2))
             (ap (λ (l : List Kept). more l) was ∙ sym (tells held.0 held.2)))
+
+-- what stands for what was read has the same messages pending
+pub since_kept : (kept : List Kept) (a b : DiskSeen) → HasContent kept a → Since StandsForRead a b → Since (λ read image. Recovers image kept) a b
+since_kept kept a b content since = since_as StandsForRead (λ read image. Recovers image kept) a b
+    (λ read image told stands. stands.sound kept (at_some (λ read. Recovers read kept) a.told read told content)) since

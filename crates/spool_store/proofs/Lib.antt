@@ -5,3 +5,7 @@ pub mod Lists
 pub mod Adding
 pub mod Waiting
 pub mod Wholes
+pub mod Copying
+pub mod Pieces
+pub mod Relaid
+pub mod Turning

@@ -8,6 +8,6 @@ mod records;
 mod rewrite;
 mod store;
 
-pub use faults::{CompactFault, HoldFault, OpenFault, RewriteFault, SettleFault};
+pub use faults::{CompactFault, HoldFault, OpenFault, SettleFault};
 pub use limits::AREA_LIMIT;
 pub use store::Store;
