@@ -1,2 +1,3 @@
 -- What private functions and proofs cite. No public clause does.
 pub mod Standing
+pub mod Opening

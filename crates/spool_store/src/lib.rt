@@ -3,6 +3,7 @@
 
 mod faults;
 mod limits;
+mod open;
 
 pub use faults::{OpenFault, RewriteFault};
 pub use limits::AREA_LIMIT;
