@@ -1,3 +1,6 @@
 pub mod Unique
 pub mod Forces
 pub mod StillLemmas
+pub mod ContentLemmas
+pub mod Payloads
+pub mod ReplayLemmas

@@ -1,3 +1,4 @@
 -- What private functions and proofs cite. No public clause does.
 pub mod Standing
 pub mod Opening
+pub mod Replay

@@ -4,6 +4,7 @@
 mod faults;
 mod limits;
 mod open;
+mod replay;
 
 pub use faults::{OpenFault, RewriteFault};
 pub use limits::AREA_LIMIT;
