@@ -1,5 +1,5 @@
 -- The records of an area, read one after the other.
-use Rattle.std.proofs.Common.{◌≡◌, ◌≢◌, ℕ, ◌+◌, ◌≤◌, ◌<◌, ◌^◌, List, [], ◌∷◌, ◌++◌, length, take, drop, get_or, Bool, true, false, Option, Some, None, IfSome, refl, sym, ◌∙◌, subst, ap, arith}
+use Rattle.std.proofs.Common.{◌≡◌, ◌≢◌, ℕ, ◌+◌, ◌≤◌, ◌<◌, ◌^◌, List, [], ◌∷◌, ◌++◌, length, take, drop, get_or, Bool, true, false, Option, Some, None, IfSome, IfNone, MatchOption, refl, sym, ◌∙◌, subst, ap, arith}
 use Rattle.std.proofs.lemmas.List.{drop_at, take-append-drop, append_assoc, length-append, drop_more}
 use Rattle.kumo_disk.specs.Disk.{Image, area_of, DiskSeen}
 use Rattle.kumo_disk.proofs.Runs.{at_some, if_some}
@@ -17,7 +17,9 @@ use Rattle.spool_log.proofs.Forms.{bytes-push, small-push}
 use Rattle.spool_index.specs.declared.place.Place.{Place}
 use Rattle.spool_store.specs.Content.{Item, after, played, places_of}
 use Rattle.spool_store.specs.Reading.{Breaks}
-use Rattle.spool_store.specs.inside.Replay.{Takes, Seen, IsReplayed, BreaksAt}
+use Rattle.spool_store.specs.inside.Replay.{Takes, Seen, IsReplaying, IsReplayed, BreaksAt}
+use Rattle.spool_store.specs.inside.Opening.{IsStill}
+use Rattle.spool_store.proofs.StillLemmas.{still_now, still_then}
 use Rattle.spool_store.proofs.Unique.{same_record_at}
 use Rattle.spool_store.proofs.Forces.{header_form, played_push}
 
@@ -158,3 +160,47 @@ module _ (h : Header) (area at : ℕ) (places : List Place) (told : Option Image
   step_end payload s is steps = if_some (λ read. IsReplayed h at places (area_of area read)) told (λ read tells.
       seen_end h at places (area_of area read) (at_some (λ read. Seen h at places (area_of area read)) told read tells seen)
           (subst (λ (q : Step). StepAt (area_of area read) at payload q) is (at_some (λ read. StepAt (area_of area read) at payload s) told read tells steps)))
+
+-- the same by other names
+pub seen_told : (log here : Log) (at : ℕ) (places : List Place) (old now : DiskSeen) → IsReplaying log here at places old now → IfSome now.told (λ read. Seen here.header at places (area_of here.area read))
+seen_told log here at places old now r =
+    subst (λ (k : Log). IfSome now.told (λ read. Seen k.header at places (area_of k.area read))) (sym r.same)
+        (subst (λ (o : Option Image). IfSome o (λ read. Seen log.header at places (area_of log.area read))) (sym r.still.same) r.seen)
+
+pub told_same : (P : Log → Image → Type 0) (log here : Log) (at : ℕ) (places : List Place) (old now : DiskSeen) → IsReplaying log here at places old now → IfSome now.told (P here) → IfSome old.told (P log)
+told_same P log here at places old now r holds =
+    subst (λ (k : Log). IfSome old.told (P k)) r.same (subst (λ (o : Option Image). IfSome o (P here)) r.still.same holds)
+
+pub replaying_begins : (log : Log) (places : List Place) (d : DiskSeen) → places ≡ [] → IsVersion log.header.version → log.header.generation < 2 ^ 64
+    → IfSome d.told (λ read. IsFound log.area (area_of log.area read) (found.Open log)) → IsReplaying log log 16 places d d
+replaying_begins log places d none version fits begins = record {
+  still = still_now d;
+  later = omega arith;
+  same = refl;
+  low = omega arith;
+  seen = subst (λ (l : List Place). IfSome d.told (λ read. Seen log.header 16 l (area_of log.area read))) (sym none)
+      (if_some (λ read. Seen log.header 16 [] (area_of log.area read)) d.told (λ read is. seen_begins log (area_of log.area read) version fits (at_some (λ read. IsFound log.area (area_of log.area read) (found.Open log)) d.told read is begins)));
+}
+
+pub replaying_next : (log here later : Log) (at next : ℕ) (places more : List Place) (old mid now : DiskSeen) → IsReplaying log here at places old mid → later ≡ here → next + 1 < 2 ^ 63 → mid.faults ≤ now.faults
+    → IsStill mid now → IfSome mid.told (λ read. Seen here.header next more (area_of here.area read)) → IsReplaying log later next more old now
+replaying_next log here later at next places more old mid now r same low rose still seen = record {
+  still = still_then old mid now r.still still;
+  later = omega (arith, r.later, rose);
+  same = same ∙ r.same;
+  low = low;
+  seen = told_same (λ k read. Seen k.header next more (area_of k.area read)) log here at places old mid r seen;
+}
+
+-- what an answer says where it is this one
+pub at_next : (P : ℕ → Image → Type 0) (told : Option Image) (o : Option ℕ) (next : ℕ) → o ≡ Some next → IfSome told (λ read. IfSome o (λ n. P n read)) → IfSome told (P next)
+at_next P told o next is holds = subst (λ (q : Option ℕ). IfSome told (λ read. IfSome q (λ n. P n read))) is holds
+
+pub at_end : (P : Image → Type 0) (told : Option Image) (o : Option ℕ) → o ≡ None → IfSome told (λ read. IfNone o (P read)) → IfSome told P
+at_end P told o is holds = subst (λ (q : Option ℕ). IfSome told (λ read. IfNone q (P read))) is holds
+
+pub match_some : (A : Type 0) (B : ℕ → Type 0) (o : Option ℕ) (next : ℕ) → o ≡ Some next → MatchOption o A B → B next
+match_some A B o next is holds = subst (λ (q : Option ℕ). MatchOption q A B) is holds
+
+pub match_none : (A : Type 0) (B : ℕ → Type 0) (o : Option ℕ) → o ≡ None → MatchOption o A B → A
+match_none A B o is holds = subst (λ (q : Option ℕ). MatchOption q A B) is holds

@@ -4,6 +4,10 @@ use Rattle.std.proofs.lemmas.Bool.{cases_eq}
 use Rattle.kumo_disk.specs.Disk.{Image, area_of, DiskSeen, Lasts, Moved, Each, IsDurable, Same}
 use Rattle.kumo_disk.specs.Calls.{Ran}
 use Rattle.kumo_disk.proofs.Runs.{at_some, if_some, lasts_now, lasts_then, ran_same, durable_elsewhere}
+use Rattle.kumo_base.specs.Causes.{Rose}
+use Rattle.spool_store.specs.declared.faults.OpenFault.{OpenFault}
+use Rattle.spool_store.specs.declared.faults.OpenFault.TheVariants as open_fault
+use Rattle.spool_store.specs.Store.{IsOpenCause}
 use Rattle.spool_store.specs.Crash.{IsOnDisk, Since}
 use Rattle.spool_store.specs.inside.Opening.{IsStill}
 
@@ -101,3 +105,10 @@ since_reading P a b same on_disk still = record {
     told : (o : Option Image) → b.told ≡ o → MatchOption o (b.told ≡ None) (λ read. (now : Image) × (b.told ≡ Some now))
     told None is = is
     told (Some read) is = (read, is)
+
+-- a fault of a later call
+pub cause_later : (a b c : ℕ) (e : OpenFault) → a ≤ b → b ≤ c → IsOpenCause (Rose b c) e → IsOpenCause (Rose a c) e
+cause_later a b c open_fault.DiskFault first second rose = omega (arith, first, second, rose)
+cause_later a b c (open_fault.Damaged area at) first second rose = tt
+cause_later a b c (open_fault.TooLarge pending) first second rose = tt
+cause_later a b c open_fault.Memory first second rose = tt

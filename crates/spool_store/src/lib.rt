@@ -2,6 +2,7 @@
 #![tactic(auto)]
 
 mod faults;
+mod gather;
 mod limits;
 mod open;
 mod replay;

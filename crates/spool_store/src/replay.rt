@@ -3,6 +3,7 @@
 //! The messages themselves are not kept while the records are read: most of them may have been settled since.
 ghost use Rattle.std.specs.Prelude.{◌≡◌, ◌≤◌, ◌<◌, ◌+◌, ◌^◌, length, IfOk, IfErr, IfSome, IfNone, MatchOption, Some};
 ghost use Rattle.kumo_disk.specs.Disk.{area_of};
+ghost use Rattle.spool_log.specs.Area.{IsVersion};
 ghost use Rattle.spool_log.specs.Log.{IsFound};
 ghost use Rattle.spool_log.specs.declared.log.Found.TheVariants as found;
 ghost use Rattle.spool_format.specs.Held.{held_in};
@@ -144,6 +145,7 @@ fn step<D: Disk>(
 // Reads all records of a log that was found. It then knows its end.
 pub fn replay<D: Disk>(alloc: Global, disk: &mut D, log: Log) -> Result<(Log, Pending), OpenFault>
     requires area { log.area < 2 }
+    requires version { IsVersion log.header.version }
     requires begins { IfSome (D.seen disk.old).told (λ read. IsFound log.area (area_of log.area read) (found.Open log)) }
     ensures replayed { IfSome (D.seen disk.old).told (λ read. IfOk result (λ x.
         IsReplayed log.header x.0.end x.1 (area_of log.area read))) }
@@ -158,9 +160,10 @@ pub fn replay<D: Disk>(alloc: Global, disk: &mut D, log: Log) -> Result<(Log, Pe
     let mut here = log;
     let mut at = 16;
     'records: loop {
-        match step(alloc, disk, &mut here, at, &mut pending, &mut payload)? {
-            Some(next) => at = next,
-            None => return Ok((here, pending)),
+        match step(alloc, disk, &mut here, at, &mut pending, &mut payload) {
+            Ok(Some(next)) => at = next,
+            Ok(None) => return Ok((here, pending)),
+            Err(fault) => return Err(fault),
         }
     }
 }

@@ -1,12 +1,16 @@
 -- The records of the area in force, read one after the other.
-use Rattle.std.specs.Prelude.{◌≡◌, ℕ, ◌+◌, ◌≤◌, ◌<◌, ◌^◌, List, [], ◌∷◌, ◌++◌, length, take, drop, Bool, true, false, Option, Some, None, ⊤}
+use Rattle.std.specs.Prelude.{◌≡◌, ℕ, ◌+◌, ◌≤◌, ◌<◌, ◌^◌, List, [], ◌∷◌, ◌++◌, length, take, drop, map, Bool, true, false, Option, Some, None, IfSome, ⊤}
+use Rattle.kumo_disk.specs.Disk.{Image, area_of, DiskSeen}
 use Rattle.spool_log.specs.Area.{LogRecord, bytes_of_all, header_of, Form, IsVersion, AreSmall}
 use Rattle.spool_log.specs.declared.head.Header.{Header}
+use Rattle.spool_log.specs.declared.log.Log.{Log}
 use Rattle.spool_format.specs.Held.{held_in, held_payload}
 use Rattle.spool_format.specs.declared.kept.Kept.{Kept}
 use Rattle.spool_index.specs.declared.place.Place.{Place}
 use Rattle.spool_store.specs.Content.{Item, played, place_of, places_of, kept_of}
 use Rattle.spool_store.specs.Reading.{Breaks}
+use Rattle.spool_store.specs.Store.{unplaced, waiting_of}
+use Rattle.spool_store.specs.inside.Opening.{IsStill}
 use Rattle.spool_store.specs.declared.faults.OpenFault.{OpenFault}
 use Rattle.spool_store.specs.declared.faults.OpenFault.TheVariants as open_fault
 
@@ -30,6 +34,14 @@ pub record Seen (h : Header) (at : ℕ) (places : List Place) (area : List ℕ) 
   pub items : List Item
   pub plays : played h.version 16 [] rs ≡ Some items
   pub same : places ≡ places_of items
+
+-- All that was done since is that records were read.
+pub record IsReplaying (log here : Log) (at : ℕ) (places : List Place) (old now : DiskSeen) : Type 0 where
+  pub still : IsStill old now
+  pub later : old.faults ≤ now.faults
+  pub same : here ≡ log
+  pub low : at + 1 < 2 ^ 63
+  pub seen : IfSome old.told (λ read. Seen log.header at places (area_of log.area read))
 
 -- all records were read, and their messages stand at these places
 pub record IsReplayed (h : Header) (end : ℕ) (places : List Place) (area : List ℕ) : Type 0 where
@@ -55,9 +67,25 @@ abbrev pub AllStand : List ℕ → List Item → Type 0
 AllStand area [] = ⊤
 AllStand area (i ∷ items) = PayloadStands area i × AllStand area items
 
--- these messages were read so far, and those of the places are left
-pub record Gathers (area : List ℕ) (items : List Item) (kept : List Kept) (places : List Place) : Type 0 where
-  pub left : List Item
-  pub same : places ≡ places_of left
-  pub stand : AllStand area left
-  pub all : kept_of items ≡ kept ++ kept_of left
+-- a message stands at a place
+abbrev pub StandsThere : List ℕ → Place → Type 0
+StandsThere area place = (item : Item) × (place ≡ place_of item) × PayloadStands area item
+
+abbrev pub AllStandThere : List ℕ → List Place → Type 0
+AllStandThere area places = (items : List Item) × (places ≡ places_of items) × AllStand area items
+
+-- this is read at a place, whichever message stands there
+abbrev pub IsRead : List ℕ → Place → Kept → Type 0
+IsRead area place kept = (item : Item) → place ≡ place_of item → PayloadStands area item → kept ≡ item.kept
+
+abbrev pub AreRead : List ℕ → List Place → List Kept → Type 0
+AreRead area places kept = (items : List Item) → places ≡ places_of items → AllStand area items → kept ≡ kept_of items
+
+-- these messages were read so far, and those of these places are left
+pub record IsGathering (area : ℕ) (all left : List Place) (kept : List Kept) (old now : DiskSeen) : Type 0 where
+  pub still : IsStill old now
+  pub later : old.faults ≤ now.faults
+  pub before : List Place
+  pub split : all ≡ before ++ left
+  pub waiting : map unplaced before ≡ map waiting_of kept
+  pub read : IfSome old.told (λ read. AreRead (area_of area read) before kept)
