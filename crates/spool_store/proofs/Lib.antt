@@ -4,3 +4,4 @@ pub mod StillLemmas
 pub mod ContentLemmas
 pub mod Payloads
 pub mod ReplayLemmas
+pub mod GatherLemmas

@@ -35,6 +35,13 @@ IsNoDamage (open_fault.Damaged area at) = ⊥
 IsNoDamage (open_fault.TooLarge pending) = ⊥
 IsNoDamage open_fault.Memory = ⊤
 
+-- no fault of the disk
+abbrev pub IsNotOfDisk : OpenFault → Type 0
+IsNotOfDisk open_fault.DiskFault = ⊥
+IsNotOfDisk (open_fault.Damaged area at) = ⊤
+IsNotOfDisk (open_fault.TooLarge pending) = ⊥
+IsNotOfDisk open_fault.Memory = ⊤
+
 -- the disk, or this header is wrong
 abbrev pub IsWrongHeader : ℕ → List ℕ → OpenFault → Type 0
 IsWrongHeader n area open_fault.DiskFault = ⊤
