@@ -5,3 +5,4 @@ pub mod ContentLemmas
 pub mod Payloads
 pub mod ReplayLemmas
 pub mod GatherLemmas
+pub mod OpenLemmas

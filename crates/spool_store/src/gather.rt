@@ -120,8 +120,9 @@ pub fn gather<D: Disk>(
             Ok(message) => message,
             Err(fault) => return Err(fault),
         };
-        if kept.push(message).is_err() {
-            return Err(OpenFault::Memory);
+        match kept.push(message) {
+            Ok(()) => {}
+            Err(_) => return Err(OpenFault::Memory),
         }
     }
     Ok(kept)

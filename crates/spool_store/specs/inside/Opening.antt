@@ -1,7 +1,7 @@
 -- What the parts of opening a spool answer.
-use Rattle.std.specs.Prelude.{◌≡◌, ◌⊎◌, ℕ, ◌+◌, ◌<◌, ◌^◌, List, ◌++◌, length, Bool, true, false, Option, Some, None, IfSome, ⊤}
+use Rattle.std.specs.Prelude.{◌≡◌, ◌⊎◌, ℕ, List, [], IfSome, ⊤}
 use Rattle.kumo_disk.specs.Disk.{Image, DiskSeen, Lasts}
-use Rattle.spool_log.specs.Area.{LogRecord, bytes_of_all, header_of, Form, IsVersion, AreSmall}
+use Rattle.spool_log.specs.Area.{Form, IsVersion}
 use Rattle.spool_log.specs.Head.{start_of}
 use Rattle.spool_log.specs.declared.head.Header.{Header}
 use Rattle.spool_log.specs.declared.head.Start.{Start}
@@ -68,3 +68,18 @@ abbrev pub IsEither : Found → Found → Choice → Type 0
 IsEither first second choice.Nothing = ⊤
 IsEither first second (choice.Chosen log) = (first ≡ found.Open log) ⊎ (second ≡ found.Open log)
 IsEither first second choice.Apart = ⊤
+
+-- the header of the first log that is made
+abbrev pub first_header : Header
+first_header = record { version = 2; generation = 1 }
+
+-- a blank area is blank, or that log
+abbrev pub Begins : List ℕ → List ℕ → Type 0
+Begins old new = start_of old ≡ start.Blank → (start_of new ≡ start.Blank) ⊎ Form first_header [] 16 new
+
+-- a fault of the disk alone
+abbrev pub IsOfDisk : OpenFault → Type 0
+IsOfDisk open_fault.DiskFault = ⊤
+IsOfDisk (open_fault.Damaged area at) = ⊥
+IsOfDisk (open_fault.TooLarge pending) = ⊥
+IsOfDisk open_fault.Memory = ⊥
