@@ -185,19 +185,15 @@ module _ (log : Log) (a : DiskSeen) (lt : log.area < 2) (in_force : IfSome a.tol
         let r : IsReplayed log.header end places (area_of log.area read) = at_some (λ read. IsReplayed log.header end places (area_of log.area read)) a.told read (sym same ∙ is) replayed in
         (r.items, r.same, payloads_stand log.header r.rs end (area_of log.area read) r.items r.form r.plays))
 
-    standing_now : (read : Image) → a.told ≡ Some read → IsReplayed log.header end places (area_of log.area read) → (items : List Item) × Standing log.area log.header end items read × (places ≡ places_of items)
-    standing_now read is r = (
-      r.items,
-      record { in_force = at_some (λ read. force_in read ≡ InForce log.area) a.told read is in_force; rs = r.rs; form = r.form; plays = r.plays },
-      r.same,
-    )
+    standing_now : (read : Image) → a.told ≡ Some read → (r : IsReplayed log.header end places (area_of log.area read)) → Standing log.area log.header end r.items read
+    standing_now read is r = record { in_force = at_some (λ read. force_in read ≡ InForce log.area) a.told read is in_force; rs = r.rs; form = r.form; plays = r.plays }
 
     pub resume_answer : (kept : List Kept) (b : DiskSeen) → b.told ≡ a.told → IfSome b.told (λ read. AreRead (area_of log.area read) places kept) → IfSome a.told (λ read. Recovers read kept)
     resume_answer kept b same are = if_some (λ read. Recovers read kept) a.told (λ read is.
         let r : IsReplayed log.header end places (area_of log.area read) = at_some (λ read. IsReplayed log.header end places (area_of log.area read)) a.told read is replayed in
         record {
           items = r.items;
-          reads = standing_reads log.area end log.header r.items read lt (standing_now read is r).1;
+          reads = standing_reads log.area end log.header r.items read lt (standing_now read is r);
           same = at_some (λ read. AreRead (area_of log.area read) places kept) b.told read (same ∙ is) are r.items r.same (payloads_stand log.header r.rs end (area_of log.area read) r.items r.form r.plays);
         })
 
@@ -213,7 +209,8 @@ module _ (log : Log) (a : DiskSeen) (lt : log.area < 2) (in_force : IfSome a.tol
       };
       on_disk = on_disk;
       holds = if_some (λ read. (items : List Item) × Standing log.area log.header end items read × (places ≡ places_of items)) b.told (λ read is.
-          standing_now read (sym same ∙ is) (at_some (λ read. IsReplayed log.header end places (area_of log.area read)) a.told read (sym same ∙ is) replayed));
+          let r : IsReplayed log.header end places (area_of log.area read) = at_some (λ read. IsReplayed log.header end places (area_of log.area read)) a.told read (sym same ∙ is) replayed in
+          (r.items, standing_now read (sym same ∙ is) r, r.same));
     }
 
     pub resume_stands : (area : ℕ) (header : Header) (b : DiskSeen) → area ≡ log.area → header ≡ log.header → IsOnDisk a → IsStill a b → end + 1 < 2 ^ 63
@@ -257,9 +254,12 @@ module _ (first second : Found) (log : Log) (is_first : IsLogOf 0 first) (is_sec
       let zero : IsFound 0 (area_of 0 read) first = at_some (λ read. IsFound 0 (area_of 0 read) first) a.told read (sym one ∙ mid) at_first in
       let other : IsFound 1 (area_of 1 read) second = at_some (λ read. IsFound 1 (area_of 1 read) second) b.told read mid at_second in
       ⊎_elim
-          (λ same. at 0 read (subst (λ (f : Found). IsLogOf 0 f) same is_first).0 (subst (λ (f : Found). IsFound 0 (area_of 0 read) f) same zero))
-          (λ same. at 1 read (subst (λ (f : Found). IsLogOf 1 f) same is_second).0 (subst (λ (f : Found). IsFound 1 (area_of 1 read) f) same other)) either)
+          (λ same. at 0 read (area_is 0 first same is_first) (subst (λ (f : Found). IsFound 0 (area_of 0 read) f) same zero))
+          (λ same. at 1 read (area_is 1 second same is_second) (subst (λ (f : Found). IsFound 1 (area_of 1 read) f) same other)) either)
     where
+      area_is : (n : ℕ) (f : Found) → f ≡ found.Open log → IsLogOf n f → log.area ≡ n
+      area_is n f same of = let here : IsLogOf n (found.Open log) = subst (λ (f : Found). IsLogOf n f) same of in here.0
+
       at : (n : ℕ) (read : Image) → log.area ≡ n → IsFound n (area_of n read) (found.Open log) → IsFound log.area (area_of log.area read) (found.Open log)
       at n read is holds = subst (λ (k : ℕ). IsFound k (area_of k read) (found.Open log)) (sym is) holds
 

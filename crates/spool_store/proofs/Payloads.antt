@@ -22,19 +22,19 @@ stand_push b (j ∷ items) i all one = (all.0, stand_push b items i all.1 one)
 
 stand_without : (b : List ℕ) (id : ℕ) (items : List Item) → AllStand b items → AllStand b (without_item id items)
 stand_without b id [] all = tt
-stand_without b id (i ∷ items) all = by (eqb i.kept.message.id id)
+stand_without b id (i ∷ items) all = by (eqb i.kept.message.id id) (stand_without b id items all.1)
   where
-    by : (t : Bool) → AllStand b (cond t items (i ∷ without_item id items))
-    by true = all.1
-    by false = (all.0, stand_without b id items all.1)
+    by : (t : Bool) → AllStand b (without_item id items) → AllStand b (cond t items (i ∷ without_item id items))
+    by true rest = all.1
+    by false rest = (all.0, rest)
 
 stand_deferral : (b : List ℕ) (d : Deferral) (items : List Item) → AllStand b items → AllStand b (with_deferral d items)
 stand_deferral b d [] all = tt
-stand_deferral b d (i ∷ items) all = by (eqb i.kept.message.id d.id)
+stand_deferral b d (i ∷ items) all = by (eqb i.kept.message.id d.id) (stand_deferral b d items all.1)
   where
-    by : (t : Bool) → AllStand b (cond t (deferred d i ∷ items) (i ∷ with_deferral d items))
-    by true = (record { held = all.0.held; within = all.0.within }, all.1)
-    by false = (all.0, stand_deferral b d items all.1)
+    by : (t : Bool) → AllStand b (with_deferral d items) → AllStand b (cond t (deferred d i ∷ items) (i ∷ with_deferral d items))
+    by true rest = (record { held = all.0.held; within = all.0.within }, all.1)
+    by false rest = (all.0, rest)
 
 -- what was held, settled or deferred
 hold_stands : (b : List ℕ) (at : ℕ) (items later : List Item) (o : Option Message) → AllStand b items → ((m : Message) → o ≡ Some m → PayloadStands b (record { at = at; kept = fresh m }))
