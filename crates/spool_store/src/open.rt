@@ -158,16 +158,15 @@ fn resume<D: Disk>(alloc: Global, disk: &mut D, log: Log) -> Result<Opened, Open
     ensures version { IfOk result (λ o. IsVersion o.log.header.version) }
     ensures cause { HasOpenCause (D.seen disk.old).faults (D.seen disk.new).faults result }
 {
-    let (here, pending) = match replay(alloc, disk, log) {
-        Ok(read) => read,
-        Err(fault) => return Err(fault),
-    };
-    match gather(alloc, disk, log.area, &pending) {
-        Ok(kept) => Ok(Opened {
-            log: here,
-            pending,
-            kept,
-        }),
+    match replay(alloc, disk, log) {
+        Ok((here, pending)) => match gather(alloc, disk, log.area, &pending) {
+            Ok(kept) => Ok(Opened {
+                log: here,
+                pending,
+                kept,
+            }),
+            Err(fault) => Err(fault),
+        },
         Err(fault) => Err(fault),
     }
 }
