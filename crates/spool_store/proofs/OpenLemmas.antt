@@ -24,7 +24,7 @@ use Rattle.spool_store.specs.Store.{IsOpenFault}
 use Rattle.spool_store.specs.declared.faults.OpenFault.{OpenFault}
 use Rattle.spool_store.specs.declared.faults.OpenFault.TheVariants as open_fault
 use Rattle.spool_store.specs.inside.Standing.{Standing, Stands}
-use Rattle.spool_store.specs.inside.Opening.{IsStill, IsNoDamage, IsLogOf, IsEither, IsWrongHeader, start_found, first_header, Begins}
+use Rattle.spool_store.specs.inside.Opening.{IsStill, IsNoDamage, IsOfDisk, IsLogOf, IsEither, IsWrongHeader, start_found, first_header, Begins}
 use Rattle.spool_store.specs.declared.open.Choice.TheVariants as choice
 use Rattle.spool_store.specs.inside.Replay.{IsReplayed, BreaksAt, AllStandThere, AreRead}
 use Rattle.spool_store.proofs.Forces.{start_form, is_sound, reads_walk, standing_reads}
@@ -298,3 +298,12 @@ apart_open a c same force = if_some (λ read. Reads read (Broken 1 8)) a.told (�
 -- after a disk's own calls, by what is told
 pub told_as : (P : Image → Type 0) (a b : DiskSeen) → b.told ≡ a.told → IfSome b.told P → IfSome a.told P
 told_as P a b same holds = subst (λ (o : Option Image). IfSome o P) same holds
+
+pub of_disk_open : (e : OpenFault) (a : DiskSeen) → IsOfDisk e → IfSome a.told (λ read. IsOpenFault read e)
+of_disk_open e a only = if_some (λ read. IsOpenFault read e) a.told (λ read is. by read e only)
+  where
+    by : (read : Image) (e : OpenFault) → IsOfDisk e → IsOpenFault read e
+    by read open_fault.DiskFault only = tt
+    by read (open_fault.Damaged m at) only = absurd only
+    by read (open_fault.TooLarge pending) only = absurd only
+    by read open_fault.Memory only = absurd only
