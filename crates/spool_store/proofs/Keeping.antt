@@ -198,3 +198,11 @@ module _ (log : Log) (places : List Place) (r : LogRecord) (a b : DiskSeen) (sta
 pub since_kept : (kept : List Kept) (a b : DiskSeen) → HasContent kept a → Since StandsForRead a b → Since (λ read image. Recovers image kept) a b
 since_kept kept a b content since = since_as StandsForRead (λ read image. Recovers image kept) a b
     (λ read image told stands. stands.sound kept (at_some (λ read. Recovers read kept) a.told read told content)) since
+
+pub stands_then : (a b c : DiskSeen) → Since StandsForRead a b → Since StandsForRead b c → Since StandsForRead a c
+stands_then a b c first second = since_then StandsForRead StandsForRead StandsForRead a b c (λ read image stands. stands)
+    (λ read now image told told_now stands.
+        let mid : StandsForRead read now = at_some (λ read. (image : Image) → b.left a.moment image → StandsForRead read image) a.told read told first.images now
+            (b.earlier a.moment b.moment now first.time.later (omega arith) (b.as_read now told_now)) in
+        record { sound = λ kept recovers. stands.sound kept (mid.sound kept recovers); broken = λ n at reads. stands.broken n at (mid.broken n at reads) })
+    first second

@@ -9,3 +9,9 @@ pub mod Copying
 pub mod Pieces
 pub mod Relaid
 pub mod Turning
+pub mod StillLemmas
+pub mod ContentLemmas
+pub mod Payloads
+pub mod ReplayLemmas
+pub mod GatherLemmas
+pub mod OpenLemmas

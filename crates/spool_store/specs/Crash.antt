@@ -25,12 +25,12 @@ pub record StandsForRead (read image : Image) : Type 0 where
   pub broken : (n at : ℕ) → Reads read (Broken n at) → Reads image (Broken n at)
 
 -- The opening syncs were made, and from then on each image stands for what was read.
-pub record IsOpened (old new : DiskSeen) : Type 1 where
-  pub mid : DiskSeen
-  pub same : mid.told ≡ old.told
-  pub first : Lasts old mid
-  pub on_disk : IsOnDisk mid
-  pub then : Since StandsForRead mid new
+pub record IsOpened {D : Type 0} (seen : D → DiskSeen) (old new : D) : Type 0 where
+  pub mid : D
+  pub same : (seen mid).told ≡ (seen old).told
+  pub first : Lasts (seen old) (seen mid)
+  pub on_disk : IsOnDisk (seen mid)
+  pub then : Since StandsForRead (seen mid) (seen new)
 
 -- A sync failed, and both areas read as before.
 pub record IsNotSynced (old new : DiskSeen) : Type 0 where

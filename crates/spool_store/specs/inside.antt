@@ -2,3 +2,5 @@
 pub mod Standing
 pub mod Whole
 pub mod Rewriting
+pub mod Opening
+pub mod Replay

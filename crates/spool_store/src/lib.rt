@@ -3,8 +3,12 @@
 
 mod faults;
 mod fitting;
+mod gather;
 mod limits;
+mod open;
+mod opening;
 mod records;
+mod replay;
 mod rewrite;
 mod store;
 
