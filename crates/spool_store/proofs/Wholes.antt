@@ -1,12 +1,15 @@
 -- What a store that is not down keeps, through its calls.
-use Rattle.std.proofs.Common.{◌≡◌, ◌⊎◌, inl, inr, ⊎_elim, ℕ, ◌+◌, ◌*◌, ◌≤◌, ◌<◌, List, [], ◌∷◌, ◌++◌, length, map, min, true, refl, sym, ◌∙◌, subst, ap, arith}
+use Rattle.std.proofs.Common.{◌≡◌, ◌⊎◌, inl, inr, ⊎_elim, ℕ, ◌+◌, ◌*◌, ◌≤◌, ◌<◌, List, [], ◌∷◌, ◌++◌, length, map, min, true, IfSome, refl, sym, ◌∙◌, subst, ap, arith}
 use Rattle.std.proofs.lemmas.List.{length-map, length-append}
 use Rattle.kumo_disk.specs.Disk.{DiskSeen}
 use Rattle.spool_log.specs.declared.log.Log.{Log}
 use Rattle.spool_index.specs.declared.place.Place.{Place}
 use Rattle.spool_index.specs.Places.{has, without, with_delay, live_cost, live_size, compacted_size}
 use Rattle.spool_store.specs.declared.limits.TheConstants.{AREA_LIMIT}
-use Rattle.spool_store.specs.Store.{unplaced}
+use Rattle.spool_format.specs.declared.kept.Kept.{Kept}
+use Rattle.kumo_disk.proofs.Runs.{at_some, if_some}
+use Rattle.spool_store.specs.Reading.{Recovers}
+use Rattle.spool_store.specs.Store.{unplaced, waiting_of, live_size_of}
 use Rattle.spool_store.specs.declared.faults.RewriteFault.{RewriteFault}
 use Rattle.spool_store.specs.declared.faults.RewriteFault.TheVariants as fault
 use Rattle.spool_store.specs.inside.Standing.{Stands, IsUndone}
@@ -69,3 +72,21 @@ deferred_whole old later ps id failures due room left a b whole stands next less
 -- what holds where memory was wanted
 pub at_memory : (Undone : Type 0) (f : RewriteFault) → f ≡ fault.Memory → IsUndone Undone f → Undone
 at_memory Undone f is undone = subst (λ (g : RewriteFault). IsUndone Undone g) is undone
+
+-- written anew at opening
+pub anew_whole : (later : Log) (ps qs : List Place) (b : DiskSeen) → live_size ps ≤ AREA_LIMIT → Stands later qs b → later.header.version ≡ 2 → map unplaced qs ≡ map unplaced ps → later.end + 1 ≡ compacted_size ps → IsWhole later qs 0 b
+anew_whole later ps qs b live stands version same anew = record {
+  stands = stands;
+  version = version;
+  live = omega (arith, live_same qs ps same, live);
+  room_within = omega arith;
+  fits = omega (arith, anew, length_same qs ps same, compacted_room ps, live);
+}
+
+-- what is pending may need more than an area may have
+pub too_large : (ps : List Place) (kept : List Kept) (count live : ℕ) (a : DiskSeen) → IfSome a.told (λ read. Recovers read kept) → map unplaced ps ≡ map waiting_of kept → count ≡ length ps → live ≡ live_size ps → AREA_LIMIT < live
+    → IfSome a.told (λ read. (kept : List Kept) × Recovers read kept × (count ≡ length kept) × (AREA_LIMIT < live_size_of kept))
+too_large ps kept count live a answer same count_is live_is large = if_some (λ read. (kept : List Kept) × Recovers read kept × (count ≡ length kept) × (AREA_LIMIT < live_size_of kept)) a.told (λ read told.
+    (kept, at_some (λ read. Recovers read kept) a.told read told answer,
+     omega (arith, count_is, length-map ps unplaced, length-map kept waiting_of, ap (λ (l : List Place). length l) same),
+     omega (arith, live_is, large, live-unplaced ps, ap (λ (l : List Place). live_size l) same)))

@@ -1,5 +1,5 @@
 //! The store: the messages that were accepted and have no fate yet, on a disk.
-ghost use Rattle.std.specs.Prelude.{◌≡◌, ◌⊎◌, ◌+◌, ◌*◌, ◌-◌, ◌++◌, ◌≤◌, ◌<◌, ◌^◌, min, List, [], ◌∷◌, length, map, Bool, true, false, IfOk, IfErr, OnOk, MatchResult};
+ghost use Rattle.std.specs.Prelude.{◌≡◌, ◌⊎◌, ◌+◌, ◌*◌, ◌-◌, ◌++◌, ◌≤◌, ◌<◌, ◌^◌, min, List, [], ◌∷◌, length, map, Bool, true, false, IfOk, IfErr, IfSome, OnOk, MatchResult};
 ghost use Rattle.kumo_base.specs.Causes.{HasCause, Rose};
 ghost use Rattle.queue_name.specs.Message.{IsProperMessage};
 ghost use Rattle.spool_format.specs.Deferred.{IsProperDeferral};
@@ -7,19 +7,22 @@ ghost use Rattle.spool_format.specs.declared.kept.Kept.{Kept};
 ghost use Rattle.spool_index.specs.Places.{has, without, with_delay, live_size, compacted_size};
 ghost use Rattle.spool_store.specs.Content.{fresh, without_kept, with_deferral_kept};
 ghost use Rattle.spool_store.specs.Reading.{Recovers, HasContent};
-ghost use Rattle.spool_store.specs.Crash.{Since, Either, IsOnDisk};
-ghost use Rattle.spool_store.specs.Store.{StoreSeen, HasRoom, wants_compact, unplaced, waiting_of, IsHoldRefusal, IsSettleRefusal, IsCompactRefusal};
+ghost use Rattle.spool_store.specs.Crash.{Since, Either, IsOnDisk, IsOpened, IsNotSynced};
+ghost use Rattle.spool_store.specs.Store.{StoreSeen, HasRoom, wants_compact, unplaced, waiting_of, IsOpenFault, IsOpenCause, IsHoldRefusal, IsSettleRefusal, IsCompactRefusal};
 
-use crate::faults::{CompactFault, HoldFault, RewriteFault, SettleFault};
+use crate::faults::{CompactFault, HoldFault, OpenFault, RewriteFault, SettleFault};
 use crate::fitting::{fit, hold_within};
 use crate::limits::AREA_LIMIT;
+use crate::open::{Opened, sync_both};
+use crate::opening::open_synced;
 use crate::records::{add_deferred, add_settled};
 use crate::rewrite::rewrite;
 use kumo_disk::Disk;
 use queue_name::Message;
-use spool_format::{Deferral, held_length};
+use spool_format::{Deferral, Kept, held_length};
 use spool_index::Pending;
 use spool_log::Log;
+use std::alloc::Global;
 use std::marker::Model;
 
 /// A spool in use. After a fault of its disk it is down: then no call of it makes a call on the disk, and opening the disk again
@@ -47,6 +50,43 @@ impl<D: Disk + Drop> Model for Store<D> {
 }
 
 impl<D: Disk + Drop> Store<D> {
+    /// Opens a spool, and answers what is pending in it, in the order of holding. Both areas are synced first; where both are blank
+    /// area 0 is made; where the area in force is of the first version, or has no room to settle each pending message, they are
+    /// written anew. From the opening syncs on each image stands for what was read. The disk comes back with a refusal:
+    /// `Damaged` comes exactly where the bytes are damaged there, `TooLarge` exactly where they are sound and what is pending may need
+    /// more than an area may have.
+    pub fn open(alloc: Global, disk: D) -> Result<(Store<D>, Vec<Kept>), (OpenFault, D)>
+        ensures answer { IfSome (D.seen disk).told (λ read. IfOk result (λ x. Recovers read x.1.items)) }
+        ensures fault { IfSome (D.seen disk).told (λ read. IfErr result (λ e. IsOpenFault read e.0)) }
+        ensures pending { IfOk result (λ x. x.0.pending ≡ map waiting_of x.1.items) }
+        ensures content { IfOk result (λ x. HasContent x.1.items (D.seen x.0.disk)) }
+        ensures up { IfOk result (λ x. (x.0.down ≡ false) × (x.0.room ≡ 0)) }
+        ensures on_disk { IfOk result (λ x. IsOnDisk (D.seen x.0.disk)) }
+        ensures opened { IfOk result (λ x. IsOpened D.seen disk x.0.disk) }
+        ensures stopped { IfErr result (λ e. IsNotSynced (D.seen disk) (D.seen e.1) ⊎ IsOpened D.seen disk e.1) }
+        ensures faults { IfErr result (λ e. IsOpenCause (Rose (D.seen disk).faults (D.seen e.1).faults) e.0) }
+    {
+        let mut disk = disk;
+        match sync_both(&mut disk) {
+            Ok(()) => {}
+            Err(_) => return Err((OpenFault::DiskFault, disk)),
+        }
+        match open_synced(alloc, &mut disk) {
+            Ok((Opened { log, pending, kept }, payload)) => Ok((
+                Store {
+                    disk,
+                    log,
+                    pending,
+                    payload,
+                    room: 0,
+                    down: false,
+                },
+                kept,
+            )),
+            Err(fault) => Err((fault, disk)),
+        }
+    }
+
     /// How many messages are pending.
     pub fn len(&self) -> usize
         ensures { result ≡ length self.now.pending }
