@@ -16,7 +16,7 @@ use Rattle.spool_index.specs.Places.{has, without, with_delay}
 use Rattle.spool_store.specs.Content.{Item, fresh, after, kept_of, places_of, without_item, with_deferral, without_kept, with_deferral_kept}
 use Rattle.spool_store.specs.Reading.{HasContent}
 use Rattle.spool_store.specs.Crash.{Since, Either}
-use Rattle.spool_store.specs.inside.Standing.{Stands}
+use Rattle.spool_store.specs.Standing.{Stands}
 use Rattle.spool_store.proofs.Lists.{places-without, places-deferral, kept-without, kept-deferral, kept-append, places-append, after_held, after_settled, after_deferred}
 use Rattle.spool_store.proofs.Keeping.{since_adds, stands_adds, content_adds}
 

@@ -37,7 +37,7 @@ places_deferral d (i ∷ items) = by (eqb i.kept.message.id d.id) (places_deferr
   where
     by : (t : Bool) → places_of (with_deferral d items) ≡ with_delay d.id d.failures d.due (places_of items)
         → places_of (cond t (deferred d i ∷ items) (i ∷ with_deferral d items))
-            ≡ cond t (delayed d.failures d.due (place_of i) ∷ places_of items) (place_of i ∷ with_delay d.id d.failures d.due (places_of items))
+        ≡ cond t (delayed d.failures d.due (place_of i) ∷ places_of items) (place_of i ∷ with_delay d.id d.failures d.due (places_of items))
     by true rest = refl
     by false rest = ap (λ (l : List Place). place_of i ∷ l) rest
 
@@ -56,10 +56,25 @@ held_small m proper =
     let t2 : List ℕ = text_field m.recipient ++ t3 in
     let t1 : List ℕ = text_field m.sender ++ t2 in
     let t0 : List ℕ = to_be_bytes w64 m.created ++ t1 in
-    omega (arith, s.sender, s.recipient, s.campaign, s.tenant, s.body,
-        length-append (to_be_bytes w128 m.id) t0, length-append (to_be_bytes w64 m.created) t1, length-append (text_field m.sender) t2,
-        length-append (text_field m.recipient) t3, length-append (text_field (unwrap_or m.name.campaign [])) t4, length-append (text_field (unwrap_or m.name.tenant [])) t5,
-        text_long m.sender, text_long m.recipient, text_long (unwrap_or m.name.campaign []), text_long (unwrap_or m.name.tenant []), text_long m.body)
+    omega (
+      arith,
+      s.sender,
+      s.recipient,
+      s.campaign,
+      s.tenant,
+      s.body,
+      length-append (to_be_bytes w128 m.id) t0,
+      length-append (to_be_bytes w64 m.created) t1,
+      length-append (text_field m.sender) t2,
+      length-append (text_field m.recipient) t3,
+      length-append (text_field (unwrap_or m.name.campaign [])) t4,
+      length-append (text_field (unwrap_or m.name.tenant [])) t5,
+      text_long m.sender,
+      text_long m.recipient,
+      text_long (unwrap_or m.name.campaign []),
+      text_long (unwrap_or m.name.tenant []),
+      text_long m.body,
+    )
 
 place_with : ℕ → ℕ → ℕ → ℕ → ℕ → Place
 place_with id at size failures due = record { id = id; at = at; size = size; failures = failures; due = due }

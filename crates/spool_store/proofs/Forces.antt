@@ -13,7 +13,7 @@ use Rattle.spool_log.specs.declared.head.Start.TheVariants.{Blank, Wrong, Headed
 use Rattle.spool_log.proofs.Headers.{by_length_long}
 use Rattle.spool_store.specs.Content.{Item, after, and_then, played}
 use Rattle.spool_store.specs.Reading.{Reading, Sound, Broken, IsSound, Walks, Force, Nothing, InForce, Faulty, by_generation, force_in, force_of, by_force, Reads}
-use Rattle.spool_store.specs.inside.Standing.{Standing}
+use Rattle.spool_store.specs.Standing.{Standing}
 
 abbrev header : ℕ → ℕ → Header
 header version generation = record { version = version; generation = generation }
@@ -55,7 +55,7 @@ played_push v at ms ns os [] r plays gives =
     ap (λ (o : Option (List Item)). and_then o (λ l. Some l)) here
 played_push v at ms ns os (s ∷ rs) r plays gives =
     by (after v at ms s) (λ m is. played_push v (at + length (bytes_of s)) m ns os rs r is
-        (ap (λ (k : ℕ). after v k ns r) (omega (arith, length-append (bytes_of s) (bytes_of_all rs))) ∙ gives)) plays
+    (ap (λ (k : ℕ). after v k ns r) (omega (arith, length-append (bytes_of s) (bytes_of_all rs))) ∙ gives)) plays
   where
     by : (o : Option (List Item)) → ((m : List Item) → played v (at + length (bytes_of s)) m rs ≡ Some ns → played v (at + length (bytes_of s)) m (rs ++ r ∷ []) ≡ Some os)
         → and_then o (λ l. played v (at + length (bytes_of s)) l rs) ≡ Some ns → and_then o (λ l. played v (at + length (bytes_of s)) l (rs ++ r ∷ [])) ≡ Some os

@@ -19,8 +19,11 @@ use Rattle.spool_store.proofs.StillLemmas.{still_now, still_then}
 
 held_some : (m : Message) → 0 < length (held_payload m)
 unfolding held_payload
-held_some m = omega (arith, length-append (to_be_bytes w128 m.id) (to_be_bytes w64 m.created ++ (text_field m.sender ++ (text_field m.recipient
-    ++ (text_field (unwrap_or m.name.campaign []) ++ (text_field (unwrap_or m.name.tenant []) ++ text_field m.body))))))
+held_some m = omega (
+  arith,
+  length-append (to_be_bytes w128 m.id) (to_be_bytes w64 m.created ++ (text_field m.sender ++ (text_field m.recipient
+      ++ (text_field (unwrap_or m.name.campaign []) ++ (text_field (unwrap_or m.name.tenant []) ++ text_field m.body))))),
+)
 
 -- no message stands in no bytes
 pub not_empty : (b : List ℕ) (place : Place) → StandsThere b place → place.size ≡ 0 → ⊥
@@ -141,8 +144,8 @@ module _ (area : ℕ) (all left more : List Place) (place : Place) (kept : List 
     waiting = waiting_push here.before kept place k here.waiting one ∙ ap (λ (l : List Kept). map waiting_of l) (sym pushed);
     read = if_some (λ read. AreRead (area_of area read) (here.before ++ place ∷ []) then) old.told (λ read is.
         subst (λ (l : List Kept). AreRead (area_of area read) (here.before ++ place ∷ []) l) (sym pushed)
-            (are_read_push (area_of area read) here.before place kept k (at_some (λ read. AreRead (area_of area read) here.before kept) old.told read is here.read)
-                (at_some (λ read. IsRead (area_of area read) place k) mid.told read (here.still.same ∙ is) is_read)));
+        (are_read_push (area_of area read) here.before place kept k (at_some (λ read. AreRead (area_of area read) here.before kept) old.told read is here.read)
+        (at_some (λ read. IsRead (area_of area read) place k) mid.told read (here.still.same ∙ is) is_read)));
   }
 
 module _ (area : ℕ) (all left : List Place) (kept : List Kept) (old now : DiskSeen) (here : IsGathering area all left kept old now) (done : left ≡ []) where

@@ -17,7 +17,7 @@ use Rattle.spool_index.specs.declared.place.Place.{Place}
 use Rattle.spool_store.specs.Content.{Item, after, played, kept_of, places_of}
 use Rattle.spool_store.specs.Reading.{Sound, Force, InForce, force_in, force_of, Reads, Recovers, HasContent}
 use Rattle.spool_store.specs.Crash.{IsOnDisk, Since, StandsForRead}
-use Rattle.spool_store.specs.inside.Standing.{Standing, Stands}
+use Rattle.spool_store.specs.Standing.{Standing, Stands}
 use Rattle.spool_store.proofs.Unique.{kept_same}
 use Rattle.spool_store.proofs.Forces.{start_form, played_push, standing_reads}
 
@@ -56,8 +56,8 @@ since_then P Q R a b c alone both first second = record {
   time = lasts_then a b c first.time second.time;
   images = if_some (λ read. (image : Image) → c.left a.moment image → R read image) a.told (λ read told image left.
       ⊎_elim (λ old. alone read image (at_some (λ read. (image : Image) → b.left a.moment image → P read image) a.told read told first.images image old))
-          (λ new. let mid = at_told read told in both read mid.0 image told mid.1 (at_some (λ read. (image : Image) → c.left b.moment image → Q read image) b.told mid.0 mid.1 second.images image new))
-          (second.time.nothing_else a.moment image first.time.later left));
+      (λ new. let mid = at_told read told in both read mid.0 image told mid.1 (at_some (λ read. (image : Image) → c.left b.moment image → Q read image) b.told mid.0 mid.1 second.images image new))
+      (second.time.nothing_else a.moment image first.time.later left));
   still = still_of a c (λ none. untold second (untold first none)) (λ read told. let mid = at_told read told in told_on second mid.0 mid.1);
 }
   where
@@ -138,11 +138,11 @@ module _ (log : Log) (places : List Place) (r : LogRecord) (a b : DiskSeen) (sta
   pub since_adds : (before : List Kept) → HasContent before a → Ran log.area (Adds log.header log.end r) a b → Since (λ read image. Recovers image before ⊎ Recovers image (more before)) a b
   since_adds before content ran = since_ran (λ read image. Recovers image before ⊎ Recovers image (more before)) log.area (Adds log.header log.end r) a b stands.on_disk
       (λ read image told moved.
-          let held = at_some (λ read. (items : List Item) × Standing log.area log.header log.end items read × (places ≡ places_of items)) a.told read told stands.holds in
-          let was : before ≡ kept_of held.0 = kept_same read held.0 before (standing_reads log.area log.end log.header held.0 read stands.ready.area held.1) (at_some (λ read. Recovers read before) a.told read told content) in
-          ⊎_elim (λ old. inl (recovers_from image held.0 before old was))
-              (λ new. inr (recovers_from image (next held.0) (more before) new (ap (λ (l : List Kept). more l) was ∙ sym (tells held.0 held.2))))
-              (standing_adds log r held.0 (next held.0) stands.ready.area (gives held.0 held.2) read held.1 image moved)) ran
+      let held = at_some (λ read. (items : List Item) × Standing log.area log.header log.end items read × (places ≡ places_of items)) a.told read told stands.holds in
+      let was : before ≡ kept_of held.0 = kept_same read held.0 before (standing_reads log.area log.end log.header held.0 read stands.ready.area held.1) (at_some (λ read. Recovers read before) a.told read told content) in
+      ⊎_elim (λ old. inl (recovers_from image held.0 before old was))
+      (λ new. inr (recovers_from image (next held.0) (more before) new (ap (λ (l : List Kept). more l) was ∙ sym (tells held.0 held.2))))
+      (standing_adds log r held.0 (next held.0) stands.ready.area (gives held.0 held.2) read held.1 image moved)) ran
 
   module _ (later : Log) (places_then : List Place) (next_is : later ≡ record { area = log.area; header = log.header; end = log.end + (6 + length r.payload) })
       (places_is : (items : List Item) → places ≡ places_of items → places_then ≡ places_of (next items))
@@ -161,7 +161,7 @@ module _ (log : Log) (places : List Place) (r : LogRecord) (a b : DiskSeen) (sta
         let comes = at_some (λ read. Each log.area (Adds log.header log.end r) a b) a.told before.0 before.1 ran.images image (b.earlier a.moment b.moment image ran.time.later (omega arith) left) in
         let from : comes.0 ≡ before.0 = at_some (λ read. (image : Image) → a.left a.moment image → image ≡ read) a.told before.0 before.1 stands.on_disk comes.0 comes.1 in
         both log.area image now stands.ready.area (subst (λ (k : ℕ). area_of k image ≡ area_of k now) area_is here)
-            (λ other differs. comes.2.elsewhere other differs ∙ ap (λ (i : Image). area_of other i) from ∙ sym (before.2.elsewhere other differs)))
+        (λ other differs. comes.2.elsewhere other differs ∙ ap (λ (i : Image). area_of other i) from ∙ sym (before.2.elsewhere other differs)))
       where
         pair : (image now : Image) → image.first ≡ now.first → image.second ≡ now.second → image ≡ now
         pair image now first second = by image.first image.second now.first now.second first second
@@ -180,9 +180,12 @@ module _ (log : Log) (places : List Place) (r : LogRecord) (a b : DiskSeen) (sta
       on_disk = on_disk_adds;
       holds = if_some (λ read. (items : List Item) × Standing later.area later.header later.end items read × (places_then ≡ places_of items)) b.told (λ now told.
           let before = told_before log.area (Added log.header log.end later.end r) a b now told added in
-          let held = at_some (λ read. (items : List Item) × Standing log.area log.header log.end items read × (places ≡ places_of items)) a.told before.0 before.1 stands.holds in
-          (next held.0, subst (λ (k : ℕ). Standing k later.header later.end (next held.0) now) (sym area_is) (subst (λ (h : Header). Standing log.area h later.end (next held.0) now) (sym header_is)
-              (standing_added log r held.0 (next held.0) stands.ready.area (gives held.0 held.2) before.0 held.1 later.end now before.2)), places_is held.0 held.2));
+          let held = at_some (λ read. (items : List Item) × Standing log.area log.header log.end items read × (places ≡ places_of items)) a.told before.0 before.1 stands.holds in (
+            next held.0,
+            subst (λ (k : ℕ). Standing k later.header later.end (next held.0) now) (sym area_is) (subst (λ (h : Header). Standing log.area h later.end (next held.0) now) (sym header_is)
+                (standing_added log r held.0 (next held.0) stands.ready.area (gives held.0 held.2) before.0 held.1 later.end now before.2)),
+            places_is held.0 held.2,
+          ));
     }
 
     pub content_adds : (kept : List Kept) → HasContent kept a → HasContent (more kept) b
@@ -191,8 +194,8 @@ module _ (log : Log) (places : List Place) (r : LogRecord) (a b : DiskSeen) (sta
         let held = at_some (λ read. (items : List Item) × Standing log.area log.header log.end items read × (places ≡ places_of items)) a.told before.0 before.1 stands.holds in
         let was : kept ≡ kept_of held.0 = kept_same before.0 held.0 kept (standing_reads log.area log.end log.header held.0 before.0 stands.ready.area held.1) (at_some (λ read. Recovers read kept) a.told before.0 before.1 content) in
         recovers_from now (next held.0) (more kept)
-            (standing_reads log.area later.end log.header (next held.0) now stands.ready.area (standing_added log r held.0 (next held.0) stands.ready.area (gives held.0 held.2) before.0 held.1 later.end now before.2))
-            (ap (λ (l : List Kept). more l) was ∙ sym (tells held.0 held.2)))
+        (standing_reads log.area later.end log.header (next held.0) now stands.ready.area (standing_added log r held.0 (next held.0) stands.ready.area (gives held.0 held.2) before.0 held.1 later.end now before.2))
+        (ap (λ (l : List Kept). more l) was ∙ sym (tells held.0 held.2)))
 
 -- what stands for what was read has the same messages pending
 pub since_kept : (kept : List Kept) (a b : DiskSeen) → HasContent kept a → Since StandsForRead a b → Since (λ read image. Recovers image kept) a b
@@ -202,7 +205,7 @@ since_kept kept a b content since = since_as StandsForRead (λ read image. Recov
 pub stands_then : (a b c : DiskSeen) → Since StandsForRead a b → Since StandsForRead b c → Since StandsForRead a c
 stands_then a b c first second = since_then StandsForRead StandsForRead StandsForRead a b c (λ read image stands. stands)
     (λ read now image told told_now stands.
-        let mid : StandsForRead read now = at_some (λ read. (image : Image) → b.left a.moment image → StandsForRead read image) a.told read told first.images now
-            (b.earlier a.moment b.moment now first.time.later (omega arith) (b.as_read now told_now)) in
-        record { sound = λ kept recovers. stands.sound kept (mid.sound kept recovers); broken = λ n at reads. stands.broken n at (mid.broken n at reads) })
+    let mid : StandsForRead read now = at_some (λ read. (image : Image) → b.left a.moment image → StandsForRead read image) a.told read told first.images now
+    (b.earlier a.moment b.moment now first.time.later (omega arith) (b.as_read now told_now)) in
+    record { sound = λ kept recovers. stands.sound kept (mid.sound kept recovers); broken = λ n at reads. stands.broken n at (mid.broken n at reads) })
     first second

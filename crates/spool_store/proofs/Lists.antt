@@ -79,8 +79,15 @@ held_small m proper =
     let s = short m proper in
     let campaign : List ℕ = unwrap_or m.name.campaign [] in
     let tenant : List ℕ = unwrap_or m.name.tenant [] in
-    omega (arith, s.sender, s.recipient, s.campaign, s.tenant, s.body,
-        length-append m.sender (text_field m.recipient ++ (text_field campaign ++ (text_field tenant ++ text_field m.body))),
-        length-append m.recipient (text_field campaign ++ (text_field tenant ++ text_field m.body)),
-        length-append campaign (text_field tenant ++ text_field m.body),
-        length-append tenant (text_field m.body))
+    omega (
+      arith,
+      s.sender,
+      s.recipient,
+      s.campaign,
+      s.tenant,
+      s.body,
+      length-append m.sender (text_field m.recipient ++ (text_field campaign ++ (text_field tenant ++ text_field m.body))),
+      length-append m.recipient (text_field campaign ++ (text_field tenant ++ text_field m.body)),
+      length-append campaign (text_field tenant ++ text_field m.body),
+      length-append tenant (text_field m.body),
+    )

@@ -23,7 +23,7 @@ use Rattle.spool_store.specs.Crash.{IsOnDisk, Since, StandsForRead}
 use Rattle.spool_store.specs.Store.{IsOpenFault}
 use Rattle.spool_store.specs.declared.faults.OpenFault.{OpenFault}
 use Rattle.spool_store.specs.declared.faults.OpenFault.TheVariants as open_fault
-use Rattle.spool_store.specs.inside.Standing.{Standing, Stands}
+use Rattle.spool_store.specs.Standing.{Standing, Stands}
 use Rattle.spool_store.specs.inside.Opening.{IsStill, IsNoDamage, IsOfDisk, IsLogOf, IsEither, IsWrongHeader, start_found, first_header, Begins}
 use Rattle.spool_store.specs.declared.open.Choice.TheVariants as choice
 use Rattle.spool_store.specs.inside.Replay.{IsReplayed, BreaksAt, AllStandThere, AreRead}
@@ -96,7 +96,7 @@ begins_reads read image is moved =
     let blank = both_blank (start_of read.first) (start_of read.second) is in
     let second : start_of image.second ≡ start.Blank = ap start_of (moved.elsewhere 1 (λ e. absurd (omega (arith, e)))) ∙ blank.1 in
     ⊎_elim (λ first. nothing_reads image (force_from image start.Blank start.Blank first second))
-        (λ form. standing_reads 0 16 first_header [] image (omega arith) (first_stands image form second)) (moved.here blank.0)
+    (λ form. standing_reads 0 16 first_header [] image (omega arith) (first_stands image form second)) (moved.here blank.0)
 
 sound_none : (items : List Item) → Sound items ≡ Sound [] → items ≡ []
 sound_none items is = cc
@@ -144,7 +144,7 @@ module _ (a b : DiskSeen) (on_disk : IsOnDisk a) (blank : IfSome a.told (λ read
           let before = told_before 0 Any a b read is ran.reads in
           let both = both_blank (start_of before.0.first) (start_of before.0.second) (at_some (λ read. force_in read ≡ Nothing) a.told before.0 before.1 blank) in
           first_stands read (at_some (λ read. Form first_header [] 16 (area_of 0 read)) b.told read is form)
-              (ap start_of (before.2.elsewhere 1 (λ e. absurd (omega (arith, e)))) ∙ both.1)
+          (ap start_of (before.2.elsewhere 1 (λ e. absurd (omega (arith, e)))) ∙ both.1)
 
       pub fresh_content : (kept : List Kept) → kept ≡ [] → HasContent kept b
       fresh_content kept none = if_some (λ read. Recovers read kept) b.told (λ read is.
@@ -217,8 +217,8 @@ module _ (log : Log) (a : DiskSeen) (lt : log.area < 2) (in_force : IfSome a.tol
         → Stands (record { area = area; header = header; end = end }) places b
     resume_stands area header b one two on_disk still low =
         subst (λ (k : ℕ). Stands (record { area = k; header = header; end = end }) places b) (sym one)
-            (subst (λ (h : Header). Stands (record { area = log.area; header = h; end = end }) places b) (sym two)
-                (at_log b (on_disk_still a b on_disk still) still.same low))
+        (subst (λ (h : Header). Stands (record { area = log.area; header = h; end = end }) places b) (sym two)
+        (at_log b (on_disk_still a b on_disk still) still.same low))
 
   pub resume_content : (kept : List Kept) (b : DiskSeen) → b.told ≡ a.told → IfSome a.told (λ read. Recovers read kept) → HasContent kept b
   resume_content kept b same recovers = subst (λ (o : Option Image). IfSome o (λ read. Recovers read kept)) (sym same) recovers
@@ -233,8 +233,8 @@ pub force_told : (first second : Found) (f : Force) (a b c : DiskSeen) → b.tol
 force_told first second f a b c one two is_first is_second force = if_some (λ read. force_in read ≡ f) c.told (λ read is.
     let mid : b.told ≡ Some read = sym two ∙ is in
     force_from read (start_found first) (start_found second)
-        (found_start 0 read.first first (at_some (λ read. IsFound 0 (area_of 0 read) first) a.told read (sym one ∙ mid) is_first))
-        (found_start 1 read.second second (at_some (λ read. IsFound 1 (area_of 1 read) second) b.told read mid is_second)) ∙ force)
+    (found_start 0 read.first first (at_some (λ read. IsFound 0 (area_of 0 read) first) a.told read (sym one ∙ mid) is_first))
+    (found_start 1 read.second second (at_some (λ read. IsFound 1 (area_of 1 read) second) b.told read mid is_second)) ∙ force)
 
 -- the chosen log is one that was found
 module _ (first second : Found) (log : Log) (is_first : IsLogOf 0 first) (is_second : IsLogOf 1 second) (either : (first ≡ found.Open log) ⊎ (second ≡ found.Open log)) where
@@ -254,8 +254,8 @@ module _ (first second : Found) (log : Log) (is_first : IsLogOf 0 first) (is_sec
       let zero : IsFound 0 (area_of 0 read) first = at_some (λ read. IsFound 0 (area_of 0 read) first) a.told read (sym one ∙ mid) at_first in
       let other : IsFound 1 (area_of 1 read) second = at_some (λ read. IsFound 1 (area_of 1 read) second) b.told read mid at_second in
       ⊎_elim
-          (λ same. at 0 read (area_is 0 first same is_first) (subst (λ (f : Found). IsFound 0 (area_of 0 read) f) same zero))
-          (λ same. at 1 read (area_is 1 second same is_second) (subst (λ (f : Found). IsFound 1 (area_of 1 read) f) same other)) either)
+      (λ same. at 0 read (area_is 0 first same is_first) (subst (λ (f : Found). IsFound 0 (area_of 0 read) f) same zero))
+      (λ same. at 1 read (area_is 1 second same is_second) (subst (λ (f : Found). IsFound 1 (area_of 1 read) f) same other)) either)
     where
       area_is : (n : ℕ) (f : Found) → f ≡ found.Open log → IsLogOf n f → log.area ≡ n
       area_is n f same of = let here : IsLogOf n (found.Open log) = subst (λ (f : Found). IsLogOf n f) same of in here.0

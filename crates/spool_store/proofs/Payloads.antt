@@ -88,10 +88,10 @@ played_stands b v at items later (r ∷ rs) rest split all is =
     let then = then_some (after v at items r) (λ ns. played v (at + length (bytes_of r)) ns rs) later is in
     let here : drop at b ≡ bytes_of r ++ (bytes_of_all rs ++ rest) = split ∙ append_assoc (bytes_of r) (bytes_of_all rs) rest in
     let behind : drop (at + length (bytes_of r)) b ≡ bytes_of_all rs ++ rest =
-        sym (drop-drop (length (bytes_of r)) at b) ∙ ap (λ (l : List ℕ). drop (length (bytes_of r)) l) here ∙ drop_at (bytes_of r) (bytes_of_all rs ++ rest) (length (bytes_of r)) refl in
+    sym (drop-drop (length (bytes_of r)) at b) ∙ ap (λ (l : List ℕ). drop (length (bytes_of r)) l) here ∙ drop_at (bytes_of r) (bytes_of_all rs ++ rest) (length (bytes_of r)) refl in
     played_stands b v (at + length (bytes_of r)) then.0 later rs rest behind (after_stands b v at items then.0 r (bytes_of_all rs ++ rest) here all then.1) then.2
 
 pub payloads_stand : (h : Header) (rs : List LogRecord) (end : ℕ) (b : List ℕ) (items : List Item) → Form h rs end b → played h.version 16 [] rs ≡ Some items → AllStand b items
 payloads_stand h rs end b items form plays =
     played_stands b h.version 16 [] items rs (form.gate ∷ form.rest)
-        (ap (λ (l : List ℕ). drop 16 l) (form.split ∙ append_assoc (header_of h) (bytes_of_all rs) (form.gate ∷ form.rest))) tt plays
+    (ap (λ (l : List ℕ). drop 16 l) (form.split ∙ append_assoc (header_of h) (bytes_of_all rs) (form.gate ∷ form.rest))) tt plays

@@ -55,9 +55,9 @@ module _ (h : Header) (at : ℕ) (places : List Place) (b : List ℕ) (seen : Se
   seen_next r new next here takes is =
       let taken = takes seen.items seen.same in
       let all : header_of h ++ bytes_of_all (seen.rs ++ r ∷ []) ≡ header_of h ++ bytes_of_all seen.rs ++ bytes_of r =
-          ap (λ (l : List ℕ). header_of h ++ l) (bytes-push seen.rs r) ∙ sym (append_assoc (header_of h) (bytes_of_all seen.rs) (bytes_of r)) in
+      ap (λ (l : List ℕ). header_of h ++ l) (bytes-push seen.rs r) ∙ sym (append_assoc (header_of h) (bytes_of_all seen.rs) (bytes_of r)) in
       let split : b ≡ header_of h ++ bytes_of_all (seen.rs ++ r ∷ []) ++ here.gate ∷ here.rest =
-          whole ∙ ap (λ (l : List ℕ). header_of h ++ bytes_of_all seen.rs ++ l) here.split ∙ sym (append_assoc (header_of h ++ bytes_of_all seen.rs) (bytes_of r) (here.gate ∷ here.rest)) ∙ ap (λ (l : List ℕ). l ++ here.gate ∷ here.rest) (sym all) in
+      whole ∙ ap (λ (l : List ℕ). header_of h ++ bytes_of_all seen.rs ++ l) here.split ∙ sym (append_assoc (header_of h ++ bytes_of_all seen.rs) (bytes_of r) (here.gate ∷ here.rest)) ∙ ap (λ (l : List ℕ). l ++ here.gate ∷ here.rest) (sym all) in
       let ends : next ≡ length (header_of h ++ bytes_of_all (seen.rs ++ r ∷ [])) = omega (arith, is, seen.ends, length-append (header_of h ++ bytes_of_all seen.rs) (bytes_of r), ap length all) in
       let place : 16 + length (bytes_of_all seen.rs) ≡ at = omega (arith, seen.ends, length-append (header_of h) (bytes_of_all seen.rs)) in
       record {
@@ -140,32 +140,36 @@ module _ (h : Header) (area at : ℕ) (places : List Place) (told : Option Image
   step_next new kind next payload given s is same steps takes = if_some (λ read. Seen h next new (area_of area read)) told (λ read tells.
       let stands : StepAt (area_of area read) at payload (step.Record kind next) = subst (λ (q : Step). StepAt (area_of area read) at payload q) is (at_some (λ read. StepAt (area_of area read) at payload s) told read tells steps) in
       seen_next h at places (area_of area read) (at_some (λ read. Seen h at places (area_of area read)) told read tells seen) (of kind payload) new next stands.0
-          (subst (λ (l : List ℕ). Takes true (λ items. after h.version at items (record { kind = kind; payload = l })) places new) same takes) stands.1)
+      (subst (λ (l : List ℕ). Takes true (λ items. after h.version at items (record { kind = kind; payload = l })) places new) same takes) stands.1)
 
   pub step_bad : (new : List Place) (kind next : ℕ) (payload given : List ℕ) (s : Step) → s ≡ step.Record kind next → given ≡ payload
       → IfSome told (λ read. StepAt (area_of area read) at payload s)
       → Takes false (λ items. after h.version at items (record { kind = kind; payload = given })) places new
       → IfSome told (λ read. (area ≡ area) × Breaks at (area_of area read))
   step_bad new kind next payload given s is same steps takes = if_some (λ read. (area ≡ area) × Breaks at (area_of area read)) told (λ read tells.
-      let stands : StepAt (area_of area read) at payload (step.Record kind next) = subst (λ (q : Step). StepAt (area_of area read) at payload q) is (at_some (λ read. StepAt (area_of area read) at payload s) told read tells steps) in
-      (refl, seen_bad h at places (area_of area read) (at_some (λ read. Seen h at places (area_of area read)) told read tells seen) (of kind payload) new stands.0
-          (subst (λ (l : List ℕ). Takes false (λ items. after h.version at items (record { kind = kind; payload = l })) places new) same takes)))
+      let stands : StepAt (area_of area read) at payload (step.Record kind next) = subst (λ (q : Step). StepAt (area_of area read) at payload q) is (at_some (λ read. StepAt (area_of area read) at payload s) told read tells steps) in (
+        refl,
+        seen_bad h at places (area_of area read) (at_some (λ read. Seen h at places (area_of area read)) told read tells seen) (of kind payload) new stands.0
+            (subst (λ (l : List ℕ). Takes false (λ items. after h.version at items (record { kind = kind; payload = l })) places new) same takes),
+      ))
 
   pub step_damaged : (offset : ℕ) (f : LogFault) → f ≡ log_fault.Damaged offset → IfSome told (λ read. FaultAt (area_of area read) at f) → IfSome told (λ read. (area ≡ area) × Breaks at (area_of area read))
-  step_damaged offset f is fault = if_some (λ read. (area ≡ area) × Breaks at (area_of area read)) told (λ read tells.
-      (refl, seen_damaged h at places (area_of area read) (at_some (λ read. Seen h at places (area_of area read)) told read tells seen)
-          (subst (λ (k : LogFault). FaultAt (area_of area read) at k) is (at_some (λ read. FaultAt (area_of area read) at f) told read tells fault)).1))
+  step_damaged offset f is fault = if_some (λ read. (area ≡ area) × Breaks at (area_of area read)) told (λ read tells. (
+    refl,
+    seen_damaged h at places (area_of area read) (at_some (λ read. Seen h at places (area_of area read)) told read tells seen)
+        (subst (λ (k : LogFault). FaultAt (area_of area read) at k) is (at_some (λ read. FaultAt (area_of area read) at f) told read tells fault)).1,
+  ))
 
   pub step_end : (payload : List ℕ) (s : Step) → s ≡ step.End → IfSome told (λ read. StepAt (area_of area read) at payload s) → IfSome told (λ read. IsReplayed h at places (area_of area read))
   step_end payload s is steps = if_some (λ read. IsReplayed h at places (area_of area read)) told (λ read tells.
       seen_end h at places (area_of area read) (at_some (λ read. Seen h at places (area_of area read)) told read tells seen)
-          (subst (λ (q : Step). StepAt (area_of area read) at payload q) is (at_some (λ read. StepAt (area_of area read) at payload s) told read tells steps)))
+      (subst (λ (q : Step). StepAt (area_of area read) at payload q) is (at_some (λ read. StepAt (area_of area read) at payload s) told read tells steps)))
 
 -- the same by other names
 pub seen_told : (log here : Log) (at : ℕ) (places : List Place) (old now : DiskSeen) → IsReplaying log here at places old now → IfSome now.told (λ read. Seen here.header at places (area_of here.area read))
 seen_told log here at places old now r =
     subst (λ (k : Log). IfSome now.told (λ read. Seen k.header at places (area_of k.area read))) (sym r.same)
-        (subst (λ (o : Option Image). IfSome o (λ read. Seen log.header at places (area_of log.area read))) (sym r.still.same) r.seen)
+    (subst (λ (o : Option Image). IfSome o (λ read. Seen log.header at places (area_of log.area read))) (sym r.still.same) r.seen)
 
 pub told_same : (P : Log → Image → Type 0) (log here : Log) (at : ℕ) (places : List Place) (old now : DiskSeen) → IsReplaying log here at places old now → IfSome now.told (P here) → IfSome old.told (P log)
 told_same P log here at places old now r holds =

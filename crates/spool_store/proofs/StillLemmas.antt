@@ -53,14 +53,14 @@ still_then a b c first second = record {
       let one : (image : Image) → b.left a.moment image → a.left a.moment image = at_some (λ read. (image : Image) → b.left a.moment image → a.left a.moment image) a.told read is first.images in
       let two : (image : Image) → c.left b.moment image → b.left b.moment image = at_some (λ read. (image : Image) → c.left b.moment image → b.left b.moment image) b.told read (first.same ∙ is) second.images in
       ⊎_elim (λ was. one image was) (λ since. one image (b.earlier a.moment b.moment image first.time.later (omega arith) (two image since)))
-          (second.time.nothing_else a.moment image first.time.later left));
+      (second.time.nothing_else a.moment image first.time.later left));
 }
 
 pub on_disk_still : (a b : DiskSeen) → IsOnDisk a → IsStill a b → IsOnDisk b
 on_disk_still a b on_disk still = if_some (λ read. (image : Image) → b.left b.moment image → image ≡ read) b.told (λ read is image left.
     let was : a.told ≡ Some read = sym still.same ∙ is in
     at_some (λ read. (image : Image) → a.left a.moment image → image ≡ read) a.told read was on_disk image
-        (at_some (λ read. (image : Image) → b.left a.moment image → a.left a.moment image) a.told read was still.images image (b.earlier a.moment b.moment image still.time.later (omega arith) left)))
+    (at_some (λ read. (image : Image) → b.left a.moment image → a.left a.moment image) a.told read was still.images image (b.earlier a.moment b.moment image still.time.later (omega arith) left)))
 
 pub durable_on_disk : (area : ℕ) (a : DiskSeen) → IsOnDisk a → IsDurable area a
 durable_on_disk area a on_disk = if_some (λ read. (image : Image) → a.left a.moment image → area_of area image ≡ area_of area read) a.told (λ read is image left.
@@ -70,8 +70,8 @@ durable_on_disk area a on_disk = if_some (λ read. (image : Image) → a.left a.
 pub on_disk_both : (a : DiskSeen) → IsDurable 0 a → IsDurable 1 a → IsOnDisk a
 on_disk_both a first second = if_some (λ read. (image : Image) → a.left a.moment image → image ≡ read) a.told (λ read is image left.
     image_same image read
-        (at_some (λ read. (image : Image) → a.left a.moment image → area_of 0 image ≡ area_of 0 read) a.told read is first image left)
-        (at_some (λ read. (image : Image) → a.left a.moment image → area_of 1 image ≡ area_of 1 read) a.told read is second image left))
+    (at_some (λ read. (image : Image) → a.left a.moment image → area_of 0 image ≡ area_of 0 read) a.told read is first image left)
+    (at_some (λ read. (image : Image) → a.left a.moment image → area_of 1 image ≡ area_of 1 read) a.told read is second image left))
 
 -- after a sync of each area
 pub synced_both : {T E : Type 0} (b c : DiskSeen) (r : Result T E) → IsDurable 0 b → OnOk r (IsDurable 1 c) → Ran 1 Same b c → OnOk r (IsOnDisk c)
@@ -84,10 +84,10 @@ since_still P a b c same on_disk still since = record {
   time = lasts_then a b c still.time since.time;
   images = if_some (λ read. (image : Image) → c.left a.moment image → P read image) a.told (λ read is image left.
       let was : (image : Image) → b.left a.moment image → P read image = λ i old. subst (λ (k : Image). P read k)
-          (sym (at_some (λ read. (image : Image) → a.left a.moment image → image ≡ read) a.told read is on_disk i
-              (at_some (λ read. (image : Image) → b.left a.moment image → a.left a.moment image) a.told read is still.images i old))) (same read) in
+      (sym (at_some (λ read. (image : Image) → a.left a.moment image → image ≡ read) a.told read is on_disk i
+      (at_some (λ read. (image : Image) → b.left a.moment image → a.left a.moment image) a.told read is still.images i old))) (same read) in
       ⊎_elim (λ old. was image old) (λ new. at_some (λ read. (image : Image) → c.left b.moment image → P read image) b.told read (still.same ∙ is) since.images image new)
-          (since.time.nothing_else a.moment image still.time.later left));
+      (since.time.nothing_else a.moment image still.time.later left));
   still = subst (λ (o : Option Image). MatchOption o (c.told ≡ None) (λ read. (now : Image) × (c.told ≡ Some now))) still.same since.still;
 }
 
@@ -97,8 +97,8 @@ since_reading P a b same on_disk still = record {
   time = still.time;
   images = if_some (λ read. (image : Image) → b.left a.moment image → P read image) a.told (λ read is image left.
       subst (λ (k : Image). P read k)
-          (sym (at_some (λ read. (image : Image) → a.left a.moment image → image ≡ read) a.told read is on_disk image
-              (at_some (λ read. (image : Image) → b.left a.moment image → a.left a.moment image) a.told read is still.images image left))) (same read));
+      (sym (at_some (λ read. (image : Image) → a.left a.moment image → image ≡ read) a.told read is on_disk image
+      (at_some (λ read. (image : Image) → b.left a.moment image → a.left a.moment image) a.told read is still.images image left))) (same read));
   still = told a.told still.same;
 }
   where

@@ -21,7 +21,7 @@ use Rattle.spool_index.specs.Places.{laid_out}
 use Rattle.spool_store.specs.Content.{Item, kept_of, places_of, played}
 use Rattle.spool_store.specs.Reading.{Sound, Broken, InForce, by_generation, force_of, force_in, Recovers, HasContent}
 use Rattle.spool_store.specs.Crash.{IsOnDisk, Since, StandsForRead}
-use Rattle.spool_store.specs.inside.Standing.{Standing, Stands}
+use Rattle.spool_store.specs.Standing.{Standing, Stands}
 use Rattle.spool_store.specs.inside.Rewriting.{copies_of, AreWithin}
 use Rattle.spool_store.proofs.Unique.{reads_same, kept_same}
 use Rattle.spool_store.proofs.Forces.{start_form, standing_reads, next_in_force, next_in_force_first}

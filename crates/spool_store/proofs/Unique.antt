@@ -78,7 +78,7 @@ walk_same v at ms ns os (r ∷ rs) (s ∷ ss) x y small little first second has 
     let mid : one.0 ≡ two.0 = let is_some : Some one.0 ≡ Some two.0 = sym one.1 ∙ ap (λ (q : LogRecord). after v at ms q) both.0 ∙ two.1 in cc in
     let next : at + length (bytes_of r) ≡ at + length (bytes_of s) = ap (λ (q : LogRecord). at + length (bytes_of q)) both.0 in
     let rest = walk_same v (at + length (bytes_of r)) one.0 ns os rs ss x y small.1 little.1 one.2 (ap (λ (l : List Item). played v (at + length (bytes_of r)) l ss) mid ∙ ap (λ (k : ℕ). played v k two.0 ss) next ∙ two.2) has more none
-        (subst (λ (k : ℕ). NoNext v (end_of k ss) os y) (sym next) no_more) both.1 in
+    (subst (λ (k : ℕ). NoNext v (end_of k ss) os y) (sym next) no_more) both.1 in
     let first_same : r ≡ s = both.0 in
     let rest_same : rs ≡ ss = rest.0 in
     (cc, rest.1)
@@ -109,9 +109,9 @@ sound_same : (ms ns : List Item) (area : List ℕ) → IsSound ms area → IsSou
 sound_same ms ns area a b =
     let v : ℕ = version_in area in
     let both = walk_same v 16 [] ms ns a.rs b.rs (a.form.gate ∷ a.form.rest) (b.form.gate ∷ b.form.rest) a.form.small b.form.small a.plays b.plays
-        (record { gate = a.form.gate; more = a.form.rest; is = refl }) (record { gate = b.form.gate; more = b.form.rest; is = refl })
-        (closed_none v (end_of 16 a.rs) ms a.form.gate a.form.rest a.form.shut) (closed_none v (end_of 16 b.rs) ns b.form.gate b.form.rest b.form.shut)
-        (tails (header_in area) a.rs b.rs (a.form.gate ∷ a.form.rest) (b.form.gate ∷ b.form.rest) area a.form.split b.form.split) in
+    (record { gate = a.form.gate; more = a.form.rest; is = refl }) (record { gate = b.form.gate; more = b.form.rest; is = refl })
+    (closed_none v (end_of 16 a.rs) ms a.form.gate a.form.rest a.form.shut) (closed_none v (end_of 16 b.rs) ns b.form.gate b.form.rest b.form.shut)
+    (tails (header_in area) a.rs b.rs (a.form.gate ∷ a.form.rest) (b.form.gate ∷ b.form.rest) area a.form.split b.form.split) in
     let is_some : Some ms ≡ Some ns = sym a.plays ∙ ap (λ (l : List LogRecord). played v 16 [] l) both.0 ∙ b.plays in
     cc
 
@@ -119,18 +119,18 @@ sound_breaks : (ms : List Item) (at : ℕ) (area : List ℕ) → IsSound ms area
 sound_breaks ms at area a b =
     let v : ℕ = version_in area in
     let both = walk_same v 16 [] ms b.items a.rs b.rs (a.form.gate ∷ a.form.rest) (1 ∷ b.rest) a.form.small b.small a.plays b.plays
-        (record { gate = a.form.gate; more = a.form.rest; is = refl }) (record { gate = 1; more = b.rest; is = refl })
-        (closed_none v (end_of 16 a.rs) ms a.form.gate a.form.rest a.form.shut) (breaks_none at area b)
-        (tails (header_in area) a.rs b.rs (a.form.gate ∷ a.form.rest) (1 ∷ b.rest) area a.form.split b.split) in
+    (record { gate = a.form.gate; more = a.form.rest; is = refl }) (record { gate = 1; more = b.rest; is = refl })
+    (closed_none v (end_of 16 a.rs) ms a.form.gate a.form.rest a.form.shut) (breaks_none at area b)
+    (tails (header_in area) a.rs b.rs (a.form.gate ∷ a.form.rest) (1 ∷ b.rest) area a.form.split b.split) in
     a.form.shut (ap (λ (l : List ℕ). get_or l 0 0) both.1)
 
 breaks_same : (at to : ℕ) (area : List ℕ) → Breaks at area → Breaks to area → at ≡ to
 breaks_same at to area a b =
     let v : ℕ = version_in area in
     let both = walk_same v 16 [] a.items b.items a.rs b.rs (1 ∷ a.rest) (1 ∷ b.rest) a.small b.small a.plays b.plays
-        (record { gate = 1; more = a.rest; is = refl }) (record { gate = 1; more = b.rest; is = refl })
-        (breaks_none at area a) (breaks_none to area b)
-        (tails (header_in area) a.rs b.rs (1 ∷ a.rest) (1 ∷ b.rest) area a.split b.split) in
+    (record { gate = 1; more = a.rest; is = refl }) (record { gate = 1; more = b.rest; is = refl })
+    (breaks_none at area a) (breaks_none to area b)
+    (tails (header_in area) a.rs b.rs (1 ∷ a.rest) (1 ∷ b.rest) area a.split b.split) in
     a.ends ∙ ap (λ (l : List LogRecord). length (header_of (header_in area) ++ bytes_of_all l)) both.0 ∙ sym b.ends
 
 pub walks_same : (n : ℕ) (area : List ℕ) (r s : Reading) → Walks n area r → Walks n area s → r ≡ s

@@ -12,8 +12,8 @@ use Rattle.spool_store.specs.Reading.{Recovers}
 use Rattle.spool_store.specs.Store.{unplaced, waiting_of, live_size_of}
 use Rattle.spool_store.specs.declared.faults.RewriteFault.{RewriteFault}
 use Rattle.spool_store.specs.declared.faults.RewriteFault.TheVariants as fault
-use Rattle.spool_store.specs.inside.Standing.{Stands, IsUndone}
-use Rattle.spool_store.specs.inside.Whole.{IsWhole}
+use Rattle.spool_store.specs.Standing.{Stands, IsUndone}
+use Rattle.spool_store.specs.Whole.{IsWhole}
 use Rattle.spool_store.proofs.Waiting.{live-unplaced, live-push, live_same, length_same, compacted_room, length-without, live-without, length-delay, live-delay}
 
 pub held_whole : (later : Log) (ps qs : List Place) (w : Place) (room size : ℕ) (b : DiskSeen) → room ≤ length ps → Stands later qs b → later.header.version ≡ 2 → map unplaced qs ≡ map unplaced ps ++ w ∷ [] → w.size ≡ size
@@ -22,7 +22,7 @@ pub held_whole : (later : Log) (ps qs : List Place) (w : Place) (room size : ℕ
 held_whole later ps qs w room size b within stands version same size_is full fits =
     let one_more : length qs ≡ length ps + 1 = omega (arith, length-map qs unplaced, length-map ps unplaced, ap length same, length-append (map unplaced ps) (w ∷ [])) in
     let live : live_size qs ≡ live_size ps + 96 + size =
-        sym (live-unplaced qs) ∙ ap (λ (l : List Place). live_size l) same ∙ live-push (map unplaced ps) w ∙ omega (arith, live-unplaced ps, size_is) in
+    sym (live-unplaced qs) ∙ ap (λ (l : List Place). live_size l) same ∙ live-push (map unplaced ps) w ∙ omega (arith, live-unplaced ps, size_is) in
     record {
       stands = stands;
       version = version;
@@ -86,7 +86,9 @@ anew_whole later ps qs b live stands version same anew = record {
 -- what is pending may need more than an area may have
 pub too_large : (ps : List Place) (kept : List Kept) (count live : ℕ) (a : DiskSeen) → IfSome a.told (λ read. Recovers read kept) → map unplaced ps ≡ map waiting_of kept → count ≡ length ps → live ≡ live_size ps → AREA_LIMIT < live
     → IfSome a.told (λ read. (kept : List Kept) × Recovers read kept × (count ≡ length kept) × (AREA_LIMIT < live_size_of kept))
-too_large ps kept count live a answer same count_is live_is large = if_some (λ read. (kept : List Kept) × Recovers read kept × (count ≡ length kept) × (AREA_LIMIT < live_size_of kept)) a.told (λ read told.
-    (kept, at_some (λ read. Recovers read kept) a.told read told answer,
-     omega (arith, count_is, length-map ps unplaced, length-map kept waiting_of, ap (λ (l : List Place). length l) same),
-     omega (arith, live_is, large, live-unplaced ps, ap (λ (l : List Place). live_size l) same)))
+too_large ps kept count live a answer same count_is live_is large = if_some (λ read. (kept : List Kept) × Recovers read kept × (count ≡ length kept) × (AREA_LIMIT < live_size_of kept)) a.told (λ read told. (
+  kept,
+  at_some (λ read. Recovers read kept) a.told read told answer,
+  omega (arith, count_is, length-map ps unplaced, length-map kept waiting_of, ap (λ (l : List Place). length l) same),
+  omega (arith, live_is, large, live-unplaced ps, ap (λ (l : List Place). live_size l) same),
+))

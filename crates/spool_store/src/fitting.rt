@@ -8,8 +8,8 @@ ghost use Rattle.spool_store.specs.Content.{fresh};
 ghost use Rattle.spool_store.specs.Reading.{Recovers, HasContent};
 ghost use Rattle.spool_store.specs.Crash.{Since, Either};
 ghost use Rattle.spool_store.specs.Store.{unplaced, waiting_of};
-ghost use Rattle.spool_store.specs.inside.Standing.{Stands, IsUndone, HasRewriteCause};
-ghost use Rattle.spool_store.specs.inside.Whole.{IsWhole};
+ghost use Rattle.spool_store.specs.Standing.{Stands, IsUndone, HasRewriteCause};
+ghost use Rattle.spool_store.specs.Whole.{IsWhole};
 
 use crate::faults::RewriteFault;
 use crate::limits::AREA_LIMIT;

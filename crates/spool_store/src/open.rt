@@ -9,7 +9,7 @@ ghost use Rattle.spool_log.specs.declared.log.Found.TheVariants as found;
 ghost use Rattle.spool_store.specs.Reading.{force_of, force_in, Nothing, InForce, Recovers, HasContent};
 ghost use Rattle.spool_store.specs.Crash.{IsOnDisk, Since, StandsForRead};
 ghost use Rattle.spool_store.specs.Store.{HasOpenCause, IsOpenFault, unplaced, waiting_of};
-ghost use Rattle.spool_store.specs.inside.Standing.{Stands};
+ghost use Rattle.spool_store.specs.Standing.{Stands};
 ghost use Rattle.spool_store.specs.inside.Opening.{IsStill, IsNotLarge, IsWrongHeader, IsLogOf, start_found, force_chosen, IsEither, Begins, IsOfDisk, first_header};
 
 use crate::faults::OpenFault;

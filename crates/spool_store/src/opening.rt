@@ -4,7 +4,7 @@ ghost use Rattle.kumo_disk.specs.Disk.{DiskSeen};
 ghost use Rattle.spool_store.specs.Reading.{Recovers, HasContent};
 ghost use Rattle.spool_store.specs.Crash.{IsOnDisk, Since, StandsForRead};
 ghost use Rattle.spool_store.specs.Store.{unplaced, waiting_of, IsOpenFault, HasOpenCause};
-ghost use Rattle.spool_store.specs.inside.Whole.{IsWhole};
+ghost use Rattle.spool_store.specs.Whole.{IsWhole};
 
 use crate::faults::{OpenFault, RewriteFault};
 use crate::limits::AREA_LIMIT;

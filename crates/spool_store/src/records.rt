@@ -13,15 +13,13 @@ ghost use Rattle.spool_index.specs.Places.{has, without, with_delay};
 ghost use Rattle.spool_store.specs.Content.{fresh, without_kept, with_deferral_kept};
 ghost use Rattle.spool_store.specs.Reading.{Recovers, HasContent};
 ghost use Rattle.spool_store.specs.Crash.{Since, Either};
-ghost use Rattle.spool_store.specs.inside.Standing.{Stands, IsUndone, HasRewriteCause};
+ghost use Rattle.spool_store.specs.Standing.{Stands, IsUndone, HasRewriteCause};
 
 use crate::faults::RewriteFault;
 use kumo_base::Failed;
 use kumo_disk::Disk;
 use queue_name::Message;
-use spool_format::laws::{
-    written_deferral_is_read, written_id_is_read, written_message_is_read,
-};
+use spool_format::laws::{written_deferral_is_read, written_id_is_read, written_message_is_read};
 use spool_format::{Deferral, write_deferred, write_held, write_settled};
 use spool_index::{Pending, Place};
 use spool_log::Log;
@@ -42,10 +40,18 @@ pub fn add_held<D: Disk>(
     ensures content { (before : List Kept) → HasContent before (D.seen disk.old)
         → OnOk result (HasContent (before ++ fresh message.now ∷ []) (D.seen disk.new)) }
     ensures stands { OnOk result (Stands log.new pending.new (D.seen disk.new)) }
-    ensures pending { OnOk result (pending.new ≡ pending.old ++ (record { id = message.now.id; at = log.old.end + 6;
-        size = length (held_payload message.now); failures = 0; due = message.now.created }) ∷ []) }
-    ensures log { OnOk result (log.new ≡ record { area = log.old.area; header = log.old.header;
-        end = log.old.end + (6 + length (held_payload message.now)) }) }
+    ensures pending { OnOk result (pending.new ≡ pending.old ++ (record {
+      id = message.now.id;
+      at = log.old.end + 6;
+      size = length (held_payload message.now);
+      failures = 0;
+      due = message.now.created;
+    }) ∷ []) }
+    ensures log { OnOk result (log.new ≡ record {
+      area = log.old.area;
+      header = log.old.header;
+      end = log.old.end + (6 + length (held_payload message.now));
+    }) }
     ensures memory { IfErr result (IsUndone ((log.new ≡ log.old) × (pending.new ≡ pending.old) × (disk.new ≡ disk.old))) }
     ensures cause { HasRewriteCause (D.seen disk.old).faults (D.seen disk.new).faults result }
 {

@@ -23,12 +23,7 @@ use spool_log::{Log, LogFault, Step};
 use std::alloc::Global;
 
 // Takes in a message that is held, unless it is pending. Its payload stands at this offset.
-fn take_held(
-    alloc: Global,
-    pending: &mut Pending,
-    at: u64,
-    payload: &[u8],
-) -> Result<bool, Memory>
+fn take_held(alloc: Global, pending: &mut Pending, at: u64, payload: &[u8]) -> Result<bool, Memory>
     ensures { IfOk result (λ good. Takes good (λ items. hold_in at items (held_in payload.now)) pending.old pending.new) }
 {
     let message = match read_held(alloc, payload) {

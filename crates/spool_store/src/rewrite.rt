@@ -15,7 +15,7 @@ ghost use Rattle.spool_format.specs.declared.kept.Kept.{Kept};
 ghost use Rattle.spool_store.specs.Reading.{HasContent};
 ghost use Rattle.spool_store.specs.Store.{unplaced};
 ghost use Rattle.spool_store.specs.Crash.{Since, StandsForRead};
-ghost use Rattle.spool_store.specs.inside.Standing.{Stands, IsUndone, HasRewriteCause};
+ghost use Rattle.spool_store.specs.Standing.{Stands, IsUndone, HasRewriteCause};
 
 use crate::faults::RewriteFault;
 use kumo_base::{Failed, Memory};

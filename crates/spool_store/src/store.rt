@@ -40,7 +40,7 @@ pub struct Store<D: Disk + Drop> {
 impl<D: Disk + Drop> Model for Store<D> {
     ghost use Rattle.std.specs.Prelude.{◌≡◌, ◌+◌, false, map};
     ghost use Rattle.spool_store.specs.Store.{StoreSeen, unplaced};
-    ghost use Rattle.spool_store.specs.inside.Whole.{IsWhole};
+    ghost use Rattle.spool_store.specs.Whole.{IsWhole};
 
     ghost Value = { StoreSeen D };
 

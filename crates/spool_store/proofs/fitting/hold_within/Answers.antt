@@ -14,10 +14,10 @@ pub returns-in-Ok-add_held-clause-since : goal.returns-in-Ok-add_held-clause-sin
 returns-in-Ok-add_held-clause-since g c = λ before content.
     let later : List Kept = before ++ fresh c.args.message.now ∷ [] in
     since_then (λ read image. Recovers image before) (Either before later) (Either before later) (g.D.Disk.seen c.args.disk.now) (g.D.Disk.seen c.fit.new.disk) (g.D.Disk.seen c.add_held.new.disk)
-        (λ read image recovers. inl recovers) (λ read now image told is either. either) (c.fit.ensures.since before content) (c.add_held.ensures.since before (c.in-Ok.ensures.content before content))
+    (λ read image recovers. inl recovers) (λ read now image told is either. either) (c.fit.ensures.since before content) (c.add_held.ensures.since before (c.in-Ok.ensures.content before content))
 
 pub returns-in-Err-add_held-clause-since : goal.returns-in-Err-add_held-clause-since
 returns-in-Err-add_held-clause-since g c = λ before content.
     let later : List Kept = before ++ fresh c.args.message.now ∷ [] in
     since_then (λ read image. Recovers image before) (Either before later) (Either before later) (g.D.Disk.seen c.args.disk.now) (g.D.Disk.seen c.fit.new.disk) (g.D.Disk.seen c.add_held.new.disk)
-        (λ read image recovers. inl recovers) (λ read now image told is either. either) (c.fit.ensures.since before content) (c.add_held.ensures.since before (c.in-Ok.ensures.content before content))
+    (λ read image recovers. inl recovers) (λ read now image told is either. either) (c.fit.ensures.since before content) (c.add_held.ensures.since before (c.in-Ok.ensures.content before content))

@@ -1,29 +1,29 @@
 use Rattle.std.proofs.Common.{◌≡◌, ◌<◌, ◌^◌, ◌∙◌, ℕ, List, arith, ap, sym, subst, length}
 use Rattle.spool_format.specs.Deferred.{deferred_in}
 use Rattle.spool_index.specs.declared.place.Place.{Place}
-use Rattle.spool_store.specs.inside.Standing.{Stands}
+use Rattle.spool_store.specs.Standing.{Stands}
 use Rattle.spool_store.proofs.Adding.{deferred_since, deferred_stands, deferred_content}
 use Rattle.spool_store.proofs.records.add_deferred.Goals as goal
 
 pub returns-in_err-append-clause-since : goal.returns-in_err-append-clause-since
 returns-in_err-append-clause-since g c = λ before content.
     deferred_since c.args.log.now c.args.pending.now c.args.deferral c.write_deferred-payload.result (g.D.Disk.seen c.args.disk.now) (g.D.Disk.seen c.append.new.disk) c.requires.stands
-        c.requires.version (ap (λ (l : List ℕ). deferred_in l) c.write_deferred-payload.ensures ∙ c.written_deferral_is_read.ensures c.args.deferral c.requires.proper) c.requires.known before content c.append.ensures.ran
+    c.requires.version (ap (λ (l : List ℕ). deferred_in l) c.write_deferred-payload.ensures ∙ c.written_deferral_is_read.ensures c.args.deferral c.requires.proper) c.requires.known before content c.append.ensures.ran
 
 pub returns-clause-since : goal.returns-clause-since
 returns-clause-since g c = λ before content.
     deferred_since c.args.log.now c.args.pending.now c.args.deferral c.write_deferred-payload.result (g.D.Disk.seen c.args.disk.now) (g.D.Disk.seen c.append.new.disk) c.requires.stands
-        c.requires.version (ap (λ (l : List ℕ). deferred_in l) c.write_deferred-payload.ensures ∙ c.written_deferral_is_read.ensures c.args.deferral c.requires.proper) c.requires.known before content c.append.ensures.ran
+    c.requires.version (ap (λ (l : List ℕ). deferred_in l) c.write_deferred-payload.ensures ∙ c.written_deferral_is_read.ensures c.args.deferral c.requires.proper) c.requires.known before content c.append.ensures.ran
 
 pub returns-clause-content : goal.returns-clause-content
 returns-clause-content g c = λ before content.
     deferred_content c.args.log.now c.args.pending.now c.args.deferral c.write_deferred-payload.result (g.D.Disk.seen c.args.disk.now) (g.D.Disk.seen c.append.new.disk) c.requires.stands
-        c.requires.version (ap (λ (l : List ℕ). deferred_in l) c.write_deferred-payload.ensures ∙ c.written_deferral_is_read.ensures c.args.deferral c.requires.proper) c.requires.known
-        c.append.new.self c.in_ok-append.ensures.next c.append.ensures.ran c.in_ok-append.ensures.ready c.in_ok-append.ensures.added before content
+    c.requires.version (ap (λ (l : List ℕ). deferred_in l) c.write_deferred-payload.ensures ∙ c.written_deferral_is_read.ensures c.args.deferral c.requires.proper) c.requires.known
+    c.append.new.self c.in_ok-append.ensures.next c.append.ensures.ran c.in_ok-append.ensures.ready c.in_ok-append.ensures.added before content
 
 pub returns-clause-stands : goal.returns-clause-stands
 returns-clause-stands g c =
     subst (λ (l : List Place). Stands c.append.new.self l (g.D.Disk.seen c.append.new.disk)) (sym c.delay.ensures)
-        (deferred_stands c.args.log.now c.args.pending.now c.args.deferral c.write_deferred-payload.result (g.D.Disk.seen c.args.disk.now) (g.D.Disk.seen c.append.new.disk) c.requires.stands
-        c.requires.version (ap (λ (l : List ℕ). deferred_in l) c.write_deferred-payload.ensures ∙ c.written_deferral_is_read.ensures c.args.deferral c.requires.proper) c.requires.known
-            c.append.new.self c.in_ok-append.ensures.next c.append.ensures.ran c.in_ok-append.ensures.ready c.in_ok-append.ensures.added)
+    (deferred_stands c.args.log.now c.args.pending.now c.args.deferral c.write_deferred-payload.result (g.D.Disk.seen c.args.disk.now) (g.D.Disk.seen c.append.new.disk) c.requires.stands
+    c.requires.version (ap (λ (l : List ℕ). deferred_in l) c.write_deferred-payload.ensures ∙ c.written_deferral_is_read.ensures c.args.deferral c.requires.proper) c.requires.known
+    c.append.new.self c.in_ok-append.ensures.next c.append.ensures.ran c.in_ok-append.ensures.ready c.in_ok-append.ensures.added)

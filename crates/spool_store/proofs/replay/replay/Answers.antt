@@ -37,21 +37,20 @@ pub records-preserved : goal.records-preserved
 records-preserved g c =
     let on = match_some _ (λ next. (c.step.new.log ≡ c.records.here) × (c.records.at < next) × (next + 1 < 2 ^ 63)) c.in-Ok-Some.field-0 c.in-Ok-Some.next c.in-Ok-Some.field-0-is c.in-Ok-Some.ensures.log in
     replaying_next c.args.log c.records.here c.step.new.log c.records.at c.in-Ok-Some.next c.records.pending c.step.new.pending (g.D.Disk.seen c.args.disk.now) (g.D.Disk.seen c.records.disk) (g.D.Disk.seen c.step.new.disk)
-        c.records.invariant on.0 on.2 c.step.ensures.cause.later c.step.ensures.still
-        (at_next (λ next read. Seen c.records.here.header next c.step.new.pending (area_of c.records.here.area read)) (g.D.Disk.seen c.records.disk).told c.in-Ok-Some.field-0 c.in-Ok-Some.next c.in-Ok-Some.field-0-is c.in-Ok-Some.ensures.next)
+    c.records.invariant on.0 on.2 c.step.ensures.cause.later c.step.ensures.still
+    (at_next (λ next read. Seen c.records.here.header next c.step.new.pending (area_of c.records.here.area read)) (g.D.Disk.seen c.records.disk).told c.in-Ok-Some.field-0 c.in-Ok-Some.next c.in-Ok-Some.field-0-is c.in-Ok-Some.ensures.next)
 
 pub returns-in-Ok-None-clause-replayed : goal.returns-in-Ok-None-clause-replayed
 returns-in-Ok-None-clause-replayed g c =
     let is = match_none (c.step.new.log ≡ record { area = c.records.here.area; header = c.records.here.header; end = c.records.at }) _ c.in-Ok-None.field-0 c.in-Ok-None.field-0-is c.in-Ok-None.ensures.log in
     subst (λ (k : ℕ). IfSome (g.D.Disk.seen c.args.disk.now).told (λ read. IsReplayed c.args.log.header k c.step.new.pending (area_of c.args.log.area read))) (sym (ap (λ (k : Log). k.end) is))
-        (told_same (λ log read. IsReplayed log.header c.records.at c.step.new.pending (area_of log.area read)) c.args.log c.records.here c.records.at c.records.pending
-            (g.D.Disk.seen c.args.disk.now) (g.D.Disk.seen c.records.disk) c.records.invariant
-            (at_end (λ read. IsReplayed c.records.here.header c.records.at c.step.new.pending (area_of c.records.here.area read)) (g.D.Disk.seen c.records.disk).told c.in-Ok-None.field-0 c.in-Ok-None.field-0-is c.in-Ok-None.ensures.end))
+    (told_same (λ log read. IsReplayed log.header c.records.at c.step.new.pending (area_of log.area read)) c.args.log c.records.here c.records.at c.records.pending
+    (g.D.Disk.seen c.args.disk.now) (g.D.Disk.seen c.records.disk) c.records.invariant
+    (at_end (λ read. IsReplayed c.records.here.header c.records.at c.step.new.pending (area_of c.records.here.area read)) (g.D.Disk.seen c.records.disk).told c.in-Ok-None.field-0 c.in-Ok-None.field-0-is c.in-Ok-None.ensures.end))
 
 pub returns-in-Ok-None-clause-log : goal.returns-in-Ok-None-clause-log
 returns-in-Ok-None-clause-log g c =
-    let is = match_none (c.step.new.log ≡ record { area = c.records.here.area; header = c.records.here.header; end = c.records.at }) _ c.in-Ok-None.field-0 c.in-Ok-None.field-0-is c.in-Ok-None.ensures.log in
-    (
+    let is = match_none (c.step.new.log ≡ record { area = c.records.here.area; header = c.records.here.header; end = c.records.at }) _ c.in-Ok-None.field-0 c.in-Ok-None.field-0-is c.in-Ok-None.ensures.log in (
       ap (λ (k : Log). k.area) is ∙ ap (λ (k : Log). k.area) c.records.invariant.same,
       ap (λ (k : Log). k.header) is ∙ ap (λ (k : Log). k.header) c.records.invariant.same,
       omega (arith, ap (λ (k : Log). k.end) is, c.records.invariant.low),

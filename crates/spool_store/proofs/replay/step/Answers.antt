@@ -24,7 +24,6 @@ pub returns-in-Err-Damaged-clause-fault : goal.returns-in-Err-Damaged-clause-fau
 returns-in-Err-Damaged-clause-fault g c = step_damaged c.args.log.now.header c.args.log.now.area c.args.at c.args.pending.now (g.D.Disk.seen c.args.disk.now).told c.requires.seen
     c.in-Err-Damaged.field-0-0 c.in-Err-Damaged.field-0 c.in-Err-Damaged.field-0-is c.in-Err-Damaged.ensures.fault
 
-
 pub returns-in-Ok-true-clause-still : goal.returns-in-Ok-true-clause-still
 returns-in-Ok-true-clause-still g c = still_ran c.args.log.now.area (g.D.Disk.seen c.args.disk.now) (g.D.Disk.seen c.read_record.new.disk) c.read_record.ensures.same c.read_record.ensures.ran
 

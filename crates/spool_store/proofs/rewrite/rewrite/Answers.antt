@@ -1,7 +1,7 @@
 use Rattle.std.proofs.Common.{List, map, ap, sym, subst, ◌∙◌}
 use Rattle.spool_index.specs.declared.place.Place.{Place}
 use Rattle.spool_store.specs.Store.{unplaced}
-use Rattle.spool_store.specs.inside.Standing.{Stands}
+use Rattle.spool_store.specs.Standing.{Stands}
 use Rattle.spool_store.proofs.Relaid.{unplaced_laid}
 use Rattle.spool_store.proofs.Turning.{since_now, content_since}
 use Rattle.spool_store.proofs.rewrite.rewrite.Goals as goal

@@ -6,7 +6,7 @@ use Rattle.spool_log.specs.Log.{IsReady}
 use Rattle.spool_log.specs.declared.draft.Draft.{Draft}
 use Rattle.spool_log.specs.declared.log.Log.{Log}
 use Rattle.spool_index.specs.Places.{laid_out}
-use Rattle.spool_store.specs.inside.Standing.{Stands}
+use Rattle.spool_store.specs.Standing.{Stands}
 use Rattle.spool_store.proofs.Turning.{other_below, other_apart, other_durable, opened_ran, pieces_within, since_clears, since_turns, stands_turned}
 use Rattle.spool_store.proofs.rewrite.write_anew.Goals as goal
 

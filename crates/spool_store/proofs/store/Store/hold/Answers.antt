@@ -18,12 +18,12 @@ hold_within-requires-clause-fresh g c =
 pub invariant_of-self : goal.invariant_of-self
 invariant_of-self g c = λ up.
     held_whole c.hold_within.new.log c.self.inside.pending c.hold_within.new.pending (waiting_of (fresh c.args.message.now)) c.self.inside.room (length (held_payload c.args.message.now)) (g.D.Disk.seen c.hold_within.new.disk)
-        (c.self.invariant up).room_within c.in-Ok.ensures.stands c.in-Ok.ensures.version c.in-Ok.ensures.pending refl
-        (omega (arith, c.live_size.ensures, c.held_length-size.ensures, c.if-live_size-size-gt-AREA_LIMIT.false))
-        (⊎_elim (λ fit. inl (omega (arith, fit, c.held_length-size.ensures, c.len.ensures.len))) (λ anew. inr anew) c.in-Ok.ensures.fits)
+    (c.self.invariant up).room_within c.in-Ok.ensures.stands c.in-Ok.ensures.version c.in-Ok.ensures.pending refl
+    (omega (arith, c.live_size.ensures, c.held_length-size.ensures, c.if-live_size-size-gt-AREA_LIMIT.false))
+    (⊎_elim (λ fit. inl (omega (arith, fit, c.held_length-size.ensures, c.len.ensures.len))) (λ anew. inr anew) c.in-Ok.ensures.fits)
 
 pub invariant_of-self-in-Err-Memory : goal.invariant_of-self-in-Err-Memory
 invariant_of-self-in-Err-Memory g c = λ up.
     moved_whole c.self.inside.log c.hold_within.new.log c.self.inside.pending c.hold_within.new.pending c.self.inside.room (g.D.Disk.seen c.self.inside.disk) (g.D.Disk.seen c.hold_within.new.disk)
-        (c.self.invariant up) (at_memory _ _ c.in-Err-Memory.field-0-is c.in-Err-Memory.ensures.stands) (at_memory _ _ c.in-Err-Memory.field-0-is c.in-Err-Memory.ensures.version)
-        (at_memory _ _ c.in-Err-Memory.field-0-is c.in-Err-Memory.ensures.pending) (at_memory _ _ c.in-Err-Memory.field-0-is c.in-Err-Memory.ensures.memory)
+    (c.self.invariant up) (at_memory _ _ c.in-Err-Memory.field-0-is c.in-Err-Memory.ensures.stands) (at_memory _ _ c.in-Err-Memory.field-0-is c.in-Err-Memory.ensures.version)
+    (at_memory _ _ c.in-Err-Memory.field-0-is c.in-Err-Memory.ensures.pending) (at_memory _ _ c.in-Err-Memory.field-0-is c.in-Err-Memory.ensures.memory)

@@ -5,7 +5,7 @@ use Rattle.spool_log.specs.declared.log.Log.{Log}
 use Rattle.spool_index.specs.declared.place.Place.{Place}
 use Rattle.spool_index.specs.Places.{live_size}
 use Rattle.spool_store.specs.declared.limits.TheConstants.{AREA_LIMIT}
-use Rattle.spool_store.specs.inside.Standing.{Stands}
+use Rattle.spool_store.specs.Standing.{Stands}
 
 pub record IsWhole (log : Log) (places : List Place) (room : ℕ) (seen : DiskSeen) : Type 0 where
   pub stands : Stands log places seen
