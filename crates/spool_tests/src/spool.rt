@@ -77,10 +77,17 @@ fn is_settled(store: &mut Store<MemDisk>, id: u128) -> bool {
 fn bytes_of_a_spool(rt: HostRuntime) -> Result<(), Fail> {
     let alloc = rt.alloc();
     let held = format!(in alloc; "{HEADER}{HELD}00")?;
-    let deferred = format!(in alloc; "{HEADER}{HELD}01030000001c00000000000000000000000000000001000000010000000000124f8000")?;
-    let settled = format!(in alloc; "{HEADER}{HELD}0102000000100000000000000000000000000000000100")?;
+    let deferred = format!(in alloc;
+        "{HEADER}{HELD}01030000001c00000000000000000000000000000001000000010000000000124f8000"
+    )?;
+    let settled = format!(in alloc;
+        "{HEADER}{HELD}0102000000100000000000000000000000000000000100"
+    )?;
     assert_eq!(rt; bytes_after(alloc, false, false)?.as_str(), held.as_str());
-    assert_eq!(rt; bytes_after(alloc, true, false)?.as_str(), deferred.as_str());
+    assert_eq!(rt;
+        bytes_after(alloc, true, false)?.as_str(),
+        deferred.as_str()
+    );
     assert_eq!(rt; bytes_after(alloc, false, true)?.as_str(), settled.as_str());
     Ok(())
 }
@@ -131,12 +138,30 @@ fn damaged_spools(rt: HostRuntime) -> Result<(), Fail> {
     let whole = ending(alloc, "00")?;
     let again = ending(alloc, HELD)?;
     let strange = ending(alloc, "0102000000100000000000000000000000000000000200")?;
-    assert_eq!(rt; opened(alloc, "014b53500200000000000000000000", "")?.as_str(), "Damaged(0, 15)");
-    assert_eq!(rt; opened(alloc, ending(alloc, "")?.as_str(), "")?.as_str(), "Damaged(0, 16)");
-    assert_eq!(rt; opened(alloc, format!(in alloc; "{again}00")?.as_str(), "")?.as_str(), "Damaged(0, 90)");
-    assert_eq!(rt; opened(alloc, strange.as_str(), "")?.as_str(), "Damaged(0, 90)");
-    assert_eq!(rt; opened(alloc, whole.as_str(), whole.as_str())?.as_str(), "Damaged(1, 8)");
-    assert_eq!(rt; opened(alloc, "0101010101010101010101010101010101010101", "")?.as_str(), "Damaged(0, 1)");
+    assert_eq!(rt;
+        opened(alloc, "014b53500200000000000000000000", "")?.as_str(),
+        "Damaged(0, 15)"
+    );
+    assert_eq!(rt;
+        opened(alloc, ending(alloc, "")?.as_str(), "")?.as_str(),
+        "Damaged(0, 16)"
+    );
+    assert_eq!(rt;
+        opened(alloc, format!(in alloc; "{again}00")?.as_str(), "")?.as_str(),
+        "Damaged(0, 90)"
+    );
+    assert_eq!(rt;
+        opened(alloc, strange.as_str(), "")?.as_str(),
+        "Damaged(0, 90)"
+    );
+    assert_eq!(rt;
+        opened(alloc, whole.as_str(), whole.as_str())?.as_str(),
+        "Damaged(1, 8)"
+    );
+    assert_eq!(rt;
+        opened(alloc, "0101010101010101010101010101010101010101", "")?.as_str(),
+        "Damaged(0, 1)"
+    );
     Ok(())
 }
 
@@ -146,8 +171,14 @@ fn sound_spools(rt: HostRuntime) -> Result<(), Fail> {
     let torn = ending(alloc, "0501010101010101010101")?;
     let older = format!(in alloc; "014b5350010000000000000000000001{HELD}00")?;
     let newer = format!(in alloc; "1 pending, 91 bytes, 014b5350020000000000000000000002{HELD}00")?;
-    assert_eq!(rt; opened(alloc, torn.as_str(), "")?.as_str(), "1 pending, 101 bytes, ");
+    assert_eq!(rt;
+        opened(alloc, torn.as_str(), "")?.as_str(),
+        "1 pending, 101 bytes, "
+    );
     assert_eq!(rt; opened(alloc, older.as_str(), "")?.as_str(), newer.as_str());
-    assert_eq!(rt; opened(alloc, "00070707070707070707", "")?.as_str(), "0 pending, 17 bytes, ");
+    assert_eq!(rt;
+        opened(alloc, "00070707070707070707", "")?.as_str(),
+        "0 pending, 17 bytes, "
+    );
     Ok(())
 }
