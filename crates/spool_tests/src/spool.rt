@@ -104,10 +104,16 @@ fn digit(byte: u8) -> u8 {
 /// The bytes that a text spells in hexadecimal.
 fn bytes_of(alloc: Global, text: &str) -> Result<Vec<u8>, Fail> {
     let mut bytes = Vec::new(alloc);
-    let mut left = text.as_bytes();
-    while let [high, low, rest @ ..] = left {
-        bytes.push(digit(*high).wrapping_mul(16).wrapping_add(digit(*low)))?;
-        left = rest;
+    let mut first = None;
+    for byte in text.as_bytes() {
+        let value = digit(*byte);
+        first = match first {
+            None => Some(value.wrapping_mul(16)),
+            Some(high) => {
+                bytes.push(value.wrapping_add(high))?;
+                None
+            }
+        };
     }
     Ok(bytes)
 }
