@@ -126,9 +126,6 @@ for words in (
 
 # Commands and options that are known and not built yet.
 for line in (
-    "spool",
-    "spool --spool d",
-    "spool --spool=d",
     "send --until 9007199254740991 --mail m --start=00000000000000000007",
     "send --spool=d --orders o --peers p --mail m --sources s",
     "send --mail m --sources s",

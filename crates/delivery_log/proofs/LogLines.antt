@@ -10,7 +10,8 @@ use Rattle.policy_core.specs.declared.orders.Order.TheVariants.{Suspend, Suspend
 use Rattle.history_core.specs.declared.entry.Event.TheVariants.{Recovered, Accepted, Known, Promoted, Opened, Begun, Ended, Closed, Delayed, Ordered, Resumed, Resolved, Rested, Stopped}
 use Rattle.history_core.specs.declared.entry.How.TheVariants as how
 use Rattle.history_core.specs.declared.entry.Next.TheVariants.{Settled, Due, Expired}
-use Rattle.delivery_log.specs.LogText.{given_member, queue_order, event_data, entry_data}
+use Rattle.json_members.specs.Members.{given_member}
+use Rattle.delivery_log.specs.LogText.{queue_order, event_data, entry_data}
 
 -- a component that is given adds no float
 has_float-given_member : (key : List ℕ) (given : Option (List ℕ)) (later : Members) → has_float (object later) ≡ false → has_float (object (given_member key given later)) ≡ false

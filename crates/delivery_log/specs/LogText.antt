@@ -1,9 +1,7 @@
 -- What is written of a history: one line of compact JSON for each entry, with its keys in byte order.
-use Rattle.std.specs.Prelude.{ℕ, List, [], ◌∷◌, ◌++◌, Option, Some, None, codes, flat_map}
-use Rattle.std.specs.Int.{w128, to_be_bytes}
-use Rattle.serde_json.specs.Data.{Data, null, number, unsigned, string, object, Members, member, no_members}
-use Rattle.serde_json.specs.Written.{compact_text}
-use Rattle.uuid.specs.Text.{hyphenated_text, lower}
+use Rattle.std.specs.Prelude.{ℕ, List, codes, flat_map}
+use Rattle.serde_json.specs.Data.{Data, null, string, object, Members, member, no_members}
+use Rattle.json_members.specs.Members.{id_text, whole_number, given_member, json_line}
 use Rattle.queue_name.specs.QueueName.{spelling}
 use Rattle.queue_name.specs.declared.criteria.Criteria.{Criteria}
 use Rattle.queue_name.specs.declared.message.Message.{Message}
@@ -22,13 +20,6 @@ use Rattle.history_core.specs.declared.entry.How.{How}
 use Rattle.history_core.specs.declared.entry.How.TheVariants as how
 use Rattle.history_core.specs.declared.entry.Cause.{Cause}
 use Rattle.history_core.specs.declared.entry.Cause.TheVariants as cause
-
--- an id as it is printed, in lower case with hyphens
-unfoldable pub id_text : ℕ → List ℕ
-id_text id = hyphenated_text lower (to_be_bytes w128 id)
-
-abbrev pub whole_number : ℕ → Data
-whole_number n = number (unsigned n)
 
 abbrev pub cause_text : Cause → List ℕ
 cause_text cause.Idle = codes "Idle"
@@ -119,11 +110,6 @@ abbrev pub due_data : Next → Data
 due_data Settled = null
 due_data (Due moment) = whole_number moment
 due_data Expired = null
-
--- a component that is given, before the members that come after it
-abbrev pub given_member : List ℕ → Option (List ℕ) → Members → Members
-given_member key None later = later
-given_member key (Some text) later = member key (string text) later
 
 -- an order about the queues whose names meet criteria
 abbrev pub queue_order : ℕ → ℕ → ℕ → List ℕ → Criteria → List ℕ → ℕ → Data
@@ -244,7 +230,7 @@ entry_data e = event_data e.at e.who e.what
 
 -- the line of an entry, with its line feed
 unfoldable pub line_of : Entry → List ℕ
-line_of e = compact_text (entry_data e) ++ 10 ∷ []
+line_of e = json_line (entry_data e)
 
 abbrev pub log_text : List Entry → List ℕ
 log_text h = flat_map line_of h

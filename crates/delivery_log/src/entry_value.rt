@@ -8,17 +8,18 @@ ghost use Rattle.serde_json.specs.Data.{put as with_member, string};
 ghost use Rattle.serde_json.specs.View.{members_view, view};
 ghost use Rattle.queue_name.specs.QueueName.{spelling};
 ghost use Rattle.history_core.specs.declared.entry.Event.TheVariants as event;
-ghost use Rattle.delivery_log.specs.LogText.{id_text, cause_text, lost_text, settled_kind, final_end, transient_failure, due_data, queue_order, path_order, resume_order, event_data, entry_data, whole_number};
-ghost use Rattle.delivery_log.specs.inside.LogMembers.{common_members, message_members, order_members, with_decision, with_given, with_criteria};
+ghost use Rattle.json_members.specs.Members.{whole_number};
+ghost use Rattle.delivery_log.specs.LogText.{cause_text, lost_text, settled_kind, final_end, transient_failure, due_data, queue_order, path_order, resume_order, event_data, entry_data};
+ghost use Rattle.delivery_log.specs.inside.LogMembers.{common_members, message_members, order_members, with_decision, with_criteria};
 
 use history_core::{Cause, Entry, Event, How, Next};
+use json_members::{id_text, put_given, put_number, put_text};
 use kumo_base::{Memory, Text};
 use policy_core::Order;
 use queue_name::{Criteria, Message, QueueName};
 use serde_json::{Map, Value, put};
 use smtp_reply::{Lost, Outcome};
 use std::alloc::Global;
-use uuid::Uuid;
 
 /// The value that the entry's line prints.
 #[tactic(auto, unfolding(crate::specs::LogText::entry_data))]
@@ -396,21 +397,6 @@ fn put_criteria(
     put_given(line, alloc, "campaign", &criteria.campaign)
 }
 
-/// Puts a text at a key, where it is given.
-fn put_given(
-    line: &mut Map<String, Value>,
-    alloc: Global,
-    key: &str,
-    given: &Option<Text>,
-) -> Result<(), Memory>
-    ensures { OnOk result (members_view line.new.entries ≡ with_given key.now given.now (members_view line.old.entries)) }
-{
-    match given {
-        None => Ok(()),
-        Some(text) => put_text(line, alloc, key, text.as_str()),
-    }
-}
-
 /// Puts the reply's text, or why there was none.
 fn put_decision(
     line: &mut Map<String, Value>,
@@ -427,34 +413,6 @@ fn put_decision(
     }
 }
 
-/// Puts a text at a key.
-fn put_text(
-    line: &mut Map<String, Value>,
-    alloc: Global,
-    key: &str,
-    text: &str,
-) -> Result<(), Memory>
-    ensures { OnOk result
-        (members_view line.new.entries ≡ with_member key.now (string text.now) (members_view line.old.entries)) }
-{
-    put(line, alloc, key, Value::try_from_str(alloc, text)?)?;
-    Ok(())
-}
-
-/// Puts a number at a key.
-fn put_number(
-    line: &mut Map<String, Value>,
-    alloc: Global,
-    key: &str,
-    number: u64,
-) -> Result<(), Memory>
-    ensures { OnOk result
-        (members_view line.new.entries ≡ with_member key.now (whole_number number) (members_view line.old.entries)) }
-{
-    put(line, alloc, key, Value::from(number))?;
-    Ok(())
-}
-
 /// The moment at which a delayed message is due.
 fn due_value(next: Next) -> Value
     ensures { view result ≡ due_data next }
@@ -463,15 +421,6 @@ fn due_value(next: Next) -> Value
         Next::Settled | Next::Expired => Value::Null,
         Next::Due(moment) => Value::from(moment),
     }
-}
-
-/// An id in lower case, with hyphens.
-fn id_text(alloc: Global, id: u128) -> Result<Text, Memory>
-    ensures { IfOk result (λ text. text ≡ id_text id) }
-{
-    let mut buffer = Uuid::encode_buffer();
-    let text = Uuid::from_u128(id).hyphenated().encode_lower(&mut buffer);
-    Text::of(alloc, text)
 }
 
 /// The spelling of a queue's name.

@@ -4,6 +4,7 @@ ghost use Rattle.delivery_log.specs.LogText.{line_of};
 
 use crate::entry_value::entry_value;
 use history_core::Entry;
+use json_members::value_line;
 use kumo_base::{Memory, Text};
 use std::alloc::Global;
 
@@ -12,7 +13,6 @@ use std::alloc::Global;
 pub fn entry_line(alloc: Global, entry: &Entry) -> Result<Text, Memory>
     ensures { IfOk result (λ line. line ≡ line_of entry.now) }
 {
-    let mut line = Text::of_string(entry_value(alloc, entry)?.to_string(alloc)?);
-    line.push_str("\n")?;
-    Ok(line)
+    let value = entry_value(alloc, entry)?;
+    value_line(alloc, &value)
 }

@@ -1,7 +1,7 @@
 -- Several calls of a disk, where it is known what a read gave or what a crash might have left before each.
-use Rattle.std.proofs.Common.{◌≡◌, ◌≢◌, ◌⊎◌, inl, inr, ⊎_elim, ℕ, ◌≤◌, List, Option, Some, None, IfSome, MatchOption, refl, sym, ◌∙◌, subst, ap, arith, length}
+use Rattle.std.proofs.Common.{◌≡◌, ℕ, List, Option, Some, None, IfSome, MatchOption, sym, ◌∙◌, subst, arith}
 use Rattle.std.specs.Bool.{⊤}
-use Rattle.kumo_disk.specs.Disk.{Image, area_of, DiskSeen, Lasts, Moved, Each, ReadMoves, IsDurable, Same, Any}
+use Rattle.kumo_disk.specs.Disk.{Image, area_of, DiskSeen, Moved, Each, ReadMoves, IsDurable, Any}
 use Rattle.kumo_disk.specs.Calls.{Ran}
 use Rattle.kumo_disk.proofs.Runs.{at_some, if_some, moved_from, untold_from, told_before, reads_of, reads_then, lasts_then, each_then}
 

@@ -1,4 +1,5 @@
 pub mod Disk
 pub mod Calls
+pub mod Failing
 pub mod Memory
 pub mod inside

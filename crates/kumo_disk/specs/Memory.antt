@@ -3,6 +3,7 @@
 use Rattle.std.specs.Prelude.{◌≡◌, ◌⊎◌, ℕ, ◌+◌, ◌≤◌, List, [], ◌∷◌, ◌++◌, length, take, drop, reverse, Some}
 use Rattle.std.proofs.Common.{zero, suc, inl, arith}
 use Rattle.kumo_disk.specs.Disk.{Image, area_of, DiskSeen, Moved, Torn, Cut}
+use Rattle.kumo_disk.specs.Failing.{plan_of, no_plan}
 use Rattle.kumo_disk.specs.declared.kept_call.KeptCall.{KeptCall}
 use Rattle.kumo_disk.specs.declared.kept_call.Effect.{Effect}
 use Rattle.kumo_disk.specs.declared.kept_call.Effect.TheVariants.{Write, Shorten, Sync}
@@ -92,6 +93,13 @@ pub record Holds (first second : List ℕ) (seen : DiskSeen) : Type 0 where
   pub told : seen.told ≡ Some (record { first = first; second = second })
   pub only : (s : ℕ) (image : Image) → seen.left s image → image ≡ record { first = first; second = second }
   pub faults : seen.faults ≡ 0
+
+-- a disk of which no call is to fail, that holds an image that a crash may leave of the other
+pub record HoldsImage (of : DiskSeen) (disk : MemDisk) : Type 0 where
+  pub image : Image
+  pub may_be_left : of.left of.moment image
+  pub holds : Holds image.first image.second (mem_seen disk)
+  pub plan : plan_of disk ≡ no_plan
 
 -- how often the disk was refused memory for what it keeps
 abbrev pub refusals : MemDisk → ℕ

@@ -15,7 +15,7 @@ pub(crate) enum Effect {
 }
 
 /// A call that was kept. As many bytes as `placed` says stand now from the offset on, where before it stood `replaced`: a
-/// write at the end replaced nothing, and a call that failed placed nothing.
+/// write at the end replaced nothing, and a call that failed placed nothing. A write that failed keeps its bytes.
 #[derive(Drop)]
 pub(crate) struct KeptCall {
     pub(crate) area: u8,
@@ -23,6 +23,7 @@ pub(crate) struct KeptCall {
     pub(crate) at: usize,
     pub(crate) placed: usize,
     pub(crate) replaced: Vec<u8>,
+    pub(crate) unwritten: Vec<u8>,
 }
 
 /// The bytes of an area from an offset on, so many, or as many as there are.

@@ -1,6 +1,7 @@
 //! A disk of two areas as a spool sees it.
 #![tactic(auto)]
 
+mod crash;
 mod disk;
 mod file_disk;
 mod kept_call;

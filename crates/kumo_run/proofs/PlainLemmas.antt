@@ -1,9 +1,9 @@
 -- What the plain policy comes to: nothing is set of queues and paths, and no rule fires.
-use Rattle.std.proofs.Common.{◌≡◌, ℕ, ◌==◌, List, [], ◌∷◌, ◌++◌, Bool, true, false, Option, Some, None, refl, ap, ◌∙◌, append-nil, filter, flat_map, option_to_list}
+use Rattle.std.proofs.Common.{◌≡◌, ℕ, List, [], ◌∷◌, ◌++◌, Bool, true, false, Option, Some, None, refl, ap, append-nil, flat_map}
 use Rattle.queue_name.specs.QueueName.{Name}
 use Rattle.queue_name.specs.declared.message.Message.{Message}
 use Rattle.policy_core.specs.Automation.{limits_of}
-use Rattle.policy_core.specs.Layers.{settings_in, settings_of, tenant_layer}
+use Rattle.policy_core.specs.Layers.{settings_in, settings_of}
 use Rattle.policy_core.specs.PathOptions.{no_options, in_force_of}
 use Rattle.policy_core.specs.PathTables.{base_of, tables_for}
 use Rattle.policy_core.specs.Site.{site_of}
@@ -13,11 +13,10 @@ use Rattle.policy_core.specs.declared.site.PathBase.{PathBase}
 use Rattle.policy_core.specs.declared.site.Site.{Site}
 use Rattle.history_core.specs.declared.entry.Entry.{Entry}
 use Rattle.history_core.specs.declared.path.Path.{Path}
-use Rattle.history_core.specs.declared.rule_match.RuleMatch.{RuleMatch}
-use Rattle.history_core.specs.History.{along, along_from, text_of}
+use Rattle.history_core.specs.History.{along_from}
 use Rattle.history_core.specs.Retry.{settings_for}
-use Rattle.history_core.specs.LiveOrders.{orders, live_orders, is_suspended, is_held}
-use Rattle.history_core.specs.Firing.{Refusal, matches_of, matches_at, matches, firings_in_force, is_covered, is_halted, is_free}
+use Rattle.history_core.specs.LiveOrders.{orders, live_orders}
+use Rattle.history_core.specs.Firing.{Refusal, matches_of, matches_at, matches, firings_in_force, is_halted, is_free}
 use Rattle.history_core.specs.Limits.{limits}
 use Rattle.kumo_run.specs.PlainPolicy.{plain_policy, no_layer}
 

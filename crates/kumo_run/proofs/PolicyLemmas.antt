@@ -14,11 +14,11 @@ use Rattle.kumo_run.specs.inside.PolicyCauses.{refusal_of_load, RefusesPolicy}
 module _ (before after : TextsSeen) (searching searched : SearchSeen) (names : PolicyNames) where
   by_fault : (fault : LoadFault) → HasCauseIn (Stops before.told names) (counts_of before after searching searched) fault
       → RefusesPolicy before after searching searched names (refusal_of_load fault)
-  by_fault (load_fault.Refused place) h = λ b a. (refl, h)
-  by_fault load_fault.Limit h = λ b a. (refl, h)
-  by_fault load_fault.ReadFault h = λ b a. (refl, (tt, h))
-  by_fault load_fault.SearchFault h = λ b a. (refl, (tt, h))
-  by_fault load_fault.Memory h = λ b a. (refl, tt)
+  by_fault (load_fault.Refused place) h = λ b a disk. (refl, h)
+  by_fault load_fault.Limit h = λ b a disk. (refl, h)
+  by_fault load_fault.ReadFault h = λ b a disk. (refl, (tt, h))
+  by_fault load_fault.SearchFault h = λ b a disk. (refl, (tt, h))
+  by_fault load_fault.Memory h = λ b a disk. (refl, tt)
 
   pub refuses_policy : (fault : LoadFault) (why : Refusal) → why ≡ refusal_of_load fault
       → HasCauseIn (Stops before.told names) (counts_of before after searching searched) fault
@@ -29,4 +29,4 @@ module _ (before after : TextsSeen) (searching searched : SearchSeen) (names : P
   pub refuses_memory : {X : Type 0} (r : Result X Refusal) → IfErr r (λ why. why ≡ refusal.Memory)
       → IfErr r (λ why. RefusesPolicy before after searching searched names why)
   refuses_memory r h =
-      IfErr-weaker r _ _ (λ why e. subst (RefusesPolicy before after searching searched names) (sym e) (λ b a. (refl, tt))) h
+      IfErr-weaker r _ _ (λ why e. subst (RefusesPolicy before after searching searched names) (sym e) (λ b a disk. (refl, tt))) h

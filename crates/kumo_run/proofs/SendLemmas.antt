@@ -28,10 +28,10 @@ says_more (Some text) P Q f h = f (mail_read text) h
 module _ (before after : TextsSeen) (name : List ℕ) where
   pub unread : (read : List ℕ) → IfSome (before.told name) (λ text. IsReadUpTo TEXT_LIMIT text read)
       → (why : Refusal) → IsMisread why (mail_read read) → RefusesMail before after name [] why
-  unread read up (refusal.Mail line why) h = λ b a searching searched.
+  unread read up (refusal.Mail line why) h = λ b a searching searched disk.
       (refl, says_as (before.told name) read (λ found. found ≡ mail_gives (refused line why)) up h)
-  unread read up refusal.Limit h = λ b a searching searched. (refl, says_as (before.told name) read (λ found. found ≡ too_long) up h)
-  unread read up refusal.Memory h = λ b a searching searched. (refl, tt)
+  unread read up refusal.TextLimit h = λ b a searching searched disk. (refl, says_as (before.told name) read (λ found. found ≡ too_long) up h)
+  unread read up refusal.Memory h = λ b a searching searched disk. (refl, tt)
   unread read up _ h = absurd h
 
   module _ (mail : List Message) (given : MailSays (before.told name) (λ found. found ≡ mail_gives (messages mail))) (sessions : List Session) where
@@ -41,10 +41,10 @@ module _ (before after : TextsSeen) (name : List ℕ) where
         (λ found e. e ∙ ap (λ (ms : List Message). mail_gives (messages ms)) is) given
 
     pub stops_short : (why : Refusal) → StopsShort why mail sessions → RefusesMail before after name sessions why
-    stops_short refusal.Memory none = λ b a searching searched. (ap deed_of_sessions none, tt)
-    stops_short refusal.NotYetMail (too_much, none) = λ b a searching searched.
+    stops_short refusal.Memory none = λ b a searching searched disk. (ap deed_of_sessions none, tt)
+    stops_short refusal.NotYetMail (too_much, none) = λ b a searching searched disk.
         (ap deed_of_sessions none, says_more (before.told name) (λ found. found ≡ mail_gives (messages mail)) IsNotYetSent (λ found e. record { mail = mail; read = e; too_much = too_much }) given)
-    stops_short refusal.NotYetReply (m, s, is, sessions_are, short) = λ b a searching searched.
+    stops_short refusal.NotYetReply (m, s, is, sessions_are, short) = λ b a searching searched disk.
         (refl, record { message = m; session = s; given = as_one m is; sessions_are = sessions_are; session_is = short })
     stops_short _ h = absurd h
 

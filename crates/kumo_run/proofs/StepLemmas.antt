@@ -1,6 +1,5 @@
 -- Each entry of the run of one delivered message, which is due at 0, may follow those before it.
-use Rattle.std.proofs.Common.{eq-eqb, ◌≡◌, ℕ, ◌==◌, ◌≤◌, List, [], ◌∷◌, ◌++◌, Bool, true, false, Option, Some, None, refl, ap, sym, ◌∙◌, inl, arith, bytes_eq, option_and_then, length}
-use Rattle.std.specs.List.{list_any}
+use Rattle.std.proofs.Common.{eq-eqb, ◌≡◌, ℕ, ◌==◌, List, [], ◌∷◌, Bool, true, false, Option, Some, None, refl, ap, sym, ◌∙◌, inl, arith, bytes_eq, option_and_then}
 use Rattle.std.proofs.lemmas.Slice.Eq.{bytes_eq-Decides}
 use Rattle.queue_name.specs.Message.{IsProperMessage}
 use Rattle.smtp_reply.specs.ReplyText.{IsReplyOf}
@@ -9,7 +8,7 @@ use Rattle.smtp_reply.specs.declared.reply.Reply.{Reply}
 use Rattle.smtp_reply.specs.declared.reply.Outcome.TheVariants.{Delivered}
 use Rattle.policy_core.specs.Limits.{unspecified}
 use Rattle.policy_core.specs.PathTables.{path_text}
-use Rattle.policy_core.specs.Site.{site_of, is_same_site, are_same_texts}
+use Rattle.policy_core.specs.Site.{are_same_texts}
 use Rattle.policy_core.specs.Rotation.{Place, rotation, rotation_of, pick}
 use Rattle.policy_core.specs.declared.site.Site.{Site}
 use Rattle.policy_core.specs.declared.sources.Pool.{Pool}
@@ -20,15 +19,11 @@ use Rattle.history_core.specs.declared.entry.Cause.TheVariants.{Empty}
 use Rattle.history_core.specs.declared.path.Path.{Path}
 use Rattle.history_core.specs.declared.path.Promoted.{Promoted}
 use Rattle.history_core.specs.History.{message_with, path_for, text_of, is_same_path, promotions, paths, path_named}
-use Rattle.history_core.specs.Fate.{pending}
-use Rattle.history_core.specs.Retry.{due, is_aged, settings_for}
+use Rattle.history_core.specs.Retry.{is_aged}
 use Rattle.history_core.specs.LiveOrders.{orders}
-use Rattle.history_core.specs.Connection.{connection_with, path_of_connection}
-use Rattle.history_core.specs.Firing.{is_halted, is_free}
-use Rattle.history_core.specs.Limits.{limits}
 use Rattle.history_core.specs.Ready.{ready, first_free}
-use Rattle.history_core.specs.Candidates.{pool_of, source_at, has_room, pick_for, is_resolvable, is_delayable, is_promotable}
-use Rattle.history_core.specs.Openable.{is_openable, next_to_open, verdict, verdict_on, work, message_key, Verdict}
+use Rattle.history_core.specs.Candidates.{pool_of, source_at, has_room, pick_for}
+use Rattle.history_core.specs.Openable.{is_openable, next_to_open, verdict, work}
 use Rattle.history_core.specs.Sweep.{next_swept}
 use Rattle.history_core.specs.Legal.{MayFollow}
 use Rattle.kumo_run.specs.PlainPolicy.{plain_policy}

@@ -8,6 +8,7 @@ use Rattle.mail_input.specs.Inputs.{messages}
 use Rattle.scripted_peer.specs.ScriptedPeer.{LinkerState}
 use Rattle.command_words.specs.Commands.{PolicyNames, Sending, Command, check, explain, spool, send, crew, load}
 use Rattle.kumo_run.specs.PolicyAnswers.{IsCheckText, IsExplainText}
+use Rattle.kumo_run.specs.Spool.{IsSpoolText}
 use Rattle.kumo_run.specs.MailRead.{MailRead, mail_gives, mail_read}
 use Rattle.kumo_run.specs.Outside.{Outside}
 use Rattle.kumo_run.specs.Run.{IsRun}
@@ -59,7 +60,7 @@ asks_for_mail_alone s = names_no_text s.texts && has_no_option s
 abbrev pub Does : Command → Outside → Deed → Type 0
 Does (check names) b d = (text : List ℕ) × IsCheckText b.texts.told names text × (d ≡ deed_of_text text)
 Does (explain question) b d = (text : List ℕ) × IsExplainText b.texts.told question text × (d ≡ deed_of_text text)
-Does (spool folder) b d = ⊥
+Does (spool folder) b d = (text : List ℕ) × IsSpoolText b.disk.told text × (d ≡ deed_of_text text)
 Does (send s) b d =
     IsTrue (asks_for_mail_alone s) × (h : List Entry) × RanMail (b.texts.told s.mail) h d.sessions × (d ≡ deed_of_run h d.sessions)
 Does (crew s workers) b d = ⊥

@@ -6,6 +6,8 @@ pub mod Delivery
 pub mod PlainPolicy
 pub mod Run
 pub mod PolicyAnswers
+pub mod Spool
+pub mod Devices
 pub mod Ending
 pub mod Deeds
 pub mod Causes

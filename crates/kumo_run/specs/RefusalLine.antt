@@ -32,13 +32,20 @@ policy_place table key = table ++ (codes " " ++ key)
 abbrev pub policy_end : Why → List ℕ
 policy_end why = codes ": " ++ (name_of_why why ++ codes "\n")
 
+-- the front of the line of a damaged spool
+abbrev pub damaged_start : ℕ → List ℕ
+damaged_start area = codes "error: spool damaged: area " ++ (decimal area ++ codes " at ")
+
 abbrev pub refusal_line : Refusal → List ℕ
 refusal_line refusal.Usage = codes "error: usage\n"
 refusal_line (refusal.Policy place) = policy_start place.file ++ (policy_place place.table place.key ++ policy_end place.why)
 refusal_line (refusal.Mail line why) = codes "error: mail line " ++ (decimal line ++ end_of_line why)
 refusal_line refusal.ReadFault = codes "error: read fault\n"
 refusal_line refusal.SearchFault = codes "error: search fault\n"
-refusal_line refusal.Limit = codes "error: limit text\n"
+refusal_line refusal.TextLimit = codes "error: limit text\n"
+refusal_line refusal.SpoolFault = codes "error: spool fault\n"
+refusal_line (refusal.SpoolDamaged area at) = damaged_start area ++ (decimal at ++ codes "\n")
+refusal_line refusal.SpoolLimit = codes "error: limit spool\n"
 refusal_line refusal.Memory = codes "error: memory\n"
 refusal_line refusal.NotYetWords = codes "error: not yet words\n"
 refusal_line refusal.NotYetMail = codes "error: not yet mail\n"
@@ -50,7 +57,10 @@ status_of (refusal.Policy place) = status.Policy
 status_of (refusal.Mail line why) = status.Mail
 status_of refusal.ReadFault = status.ReadFault
 status_of refusal.SearchFault = status.SearchFault
-status_of refusal.Limit = status.Limit
+status_of refusal.TextLimit = status.Limit
+status_of refusal.SpoolFault = status.SpoolFault
+status_of (refusal.SpoolDamaged area at) = status.SpoolDamaged
+status_of refusal.SpoolLimit = status.Limit
 status_of refusal.Memory = status.Memory
 status_of refusal.NotYetWords = status.NotYet
 status_of refusal.NotYetMail = status.NotYet

@@ -4,4 +4,5 @@ pub mod OneMessage
 pub mod PolicyCauses
 pub mod RegistryState
 pub mod SendCauses
+pub mod SpoolCauses
 pub mod Writing

@@ -89,7 +89,7 @@ fn refusal_of_load(fault: LoadFault) -> Refusal
 {
     match fault {
         LoadFault::Refused(place) => Refusal::Policy(place),
-        LoadFault::Limit => Refusal::Limit,
+        LoadFault::Limit => Refusal::TextLimit,
         LoadFault::ReadFault => Refusal::ReadFault,
         LoadFault::SearchFault => Refusal::SearchFault,
         LoadFault::Memory => Refusal::Memory,

@@ -30,7 +30,13 @@ pub enum Refusal {
     /// The search engine failed on a pattern of the shaping text.
     SearchFault,
     /// The text has more bytes than are read.
-    Limit,
+    TextLimit,
+    /// The disk failed.
+    SpoolFault,
+    /// This area of the spool is damaged from this offset on, in bytes.
+    SpoolDamaged { area: u8, at: u64 },
+    /// What is pending in the spool may need more than an area may have.
+    SpoolLimit,
     /// There was no memory.
     Memory,
     /// The command, or an option of it, is not built yet.
@@ -52,7 +58,9 @@ impl Refusal {
             Refusal::Mail { .. } => Status::Mail,
             Refusal::ReadFault => Status::ReadFault,
             Refusal::SearchFault => Status::SearchFault,
-            Refusal::Limit => Status::Limit,
+            Refusal::SpoolFault => Status::SpoolFault,
+            Refusal::SpoolDamaged { .. } => Status::SpoolDamaged,
+            Refusal::TextLimit | Refusal::SpoolLimit => Status::Limit,
             Refusal::Memory => Status::Memory,
             Refusal::NotYetWords | Refusal::NotYetMail | Refusal::NotYetReply => Status::NotYet,
         }
@@ -84,7 +92,10 @@ fn put_line<O: Sink>(refusal: &Refusal, out: &mut O) -> Result<(), Failed>
         Refusal::Mail { line, why } => put_mail_line(*line, *why, out),
         Refusal::ReadFault => put_text(out, "error: read fault\n"),
         Refusal::SearchFault => put_text(out, "error: search fault\n"),
-        Refusal::Limit => put_text(out, "error: limit text\n"),
+        Refusal::TextLimit => put_text(out, "error: limit text\n"),
+        Refusal::SpoolFault => put_text(out, "error: spool fault\n"),
+        Refusal::SpoolDamaged { area, at } => put_damaged_line(*area, *at, out),
+        Refusal::SpoolLimit => put_text(out, "error: limit spool\n"),
         Refusal::Memory => put_text(out, "error: memory\n"),
         Refusal::NotYetWords => put_text(out, "error: not yet words\n"),
         Refusal::NotYetMail => put_text(out, "error: not yet mail\n"),
@@ -120,6 +131,26 @@ fn put_mail_line<O: Sink>(line: u64, why: MailWhy, out: &mut O) -> Result<(), Fa
         buffer.format(line),
         end_of_line(why),
     )?;
+    Ok(())
+}
+
+/// Puts the line of a damaged spool.
+fn put_damaged_line<O: Sink>(area: u8, at: u64, out: &mut O) -> Result<(), Failed>
+    ensures whole { OnOk result ((O.seen out.new).told
+        ≡ told_with (O.seen out.old).told (refusal_line (Refusal.SpoolDamaged area at))) }
+    ensures part { OnErr result (TakesPrefix (O.seen out.old).told (O.seen out.new).told
+        (refusal_line (Refusal.SpoolDamaged area at))) }
+    ensures cause { HasCause (O.seen out.old).faults (O.seen out.new).faults result }
+{
+    let mut buffer = Buffer::new();
+    put_three(
+        out,
+        "error: spool damaged: area ",
+        buffer.format(area),
+        " at ",
+    )?;
+    put_text(out, buffer.format(at))?;
+    put_text(out, "\n")?;
     Ok(())
 }
 

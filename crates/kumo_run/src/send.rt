@@ -70,7 +70,7 @@ fn messages_in(alloc: Global, text: &[u8]) -> Result<Vec<Message>, Refusal>
     ensures proper { IfOk result (λ ms. All IsProperMessage ms.items) }
 {
     if text.len() > TEXT_LIMIT {
-        return Err(Refusal::Limit);
+        return Err(Refusal::TextLimit);
     }
     match read_mail(alloc, text) {
         Ok(messages) => Ok(messages),

@@ -17,6 +17,10 @@ pub enum Status {
     ReadFault,
     /// The log could not be written whole.
     WriteFault,
+    /// The disk failed.
+    SpoolFault,
+    /// The spool is damaged.
+    SpoolDamaged,
     /// A limit would be passed.
     Limit,
     /// There was no memory.
@@ -39,6 +43,8 @@ impl Status {
             Status::Mail => 4,
             Status::ReadFault => 5,
             Status::WriteFault => 6,
+            Status::SpoolFault => 7,
+            Status::SpoolDamaged => 8,
             Status::Limit => 10,
             Status::Memory => 11,
             Status::NotYet => 12,

@@ -1,4 +1,5 @@
 pub mod Limits
 pub mod Fields
 pub mod Inputs
+pub mod MailLine
 pub mod inside

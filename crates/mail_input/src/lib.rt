@@ -1,7 +1,8 @@
-//! Reads mail lines: the JSON objects, one a line, that name the messages to send.
+//! Mail lines: the JSON objects, one a line, that name the messages to send. `read_mail` reads them, `mail_line` writes one.
 //!
-//! Called once for a whole text. What it answers is the definition's reading of the bytes, both ways: the messages
-//! exactly where the text gives them, a refusal exactly where it says so.
+//! `read_mail` is called once for a whole text. What it answers is the definition's reading of the bytes, both ways: the
+//! messages exactly where the text gives them, a refusal exactly where it says so. What is written of a proper message is
+//! read as that message (`laws.rt`).
 #![tactic(auto)]
 
 ghost use Rattle.std.specs.Prelude.{◌≡◌, ◌^◌, ◌<◌, length, IfOk, IfErr};
@@ -15,12 +16,14 @@ pub mod laws;
 mod line;
 mod name;
 mod reading;
+mod written;
 
 use crate::fault::LineFault;
 use crate::reading::Reading;
 use kumo_base::Lines;
 use queue_name::Message;
 use std::alloc::Global;
+pub use written::mail_line;
 
 /// The most messages of a mail text.
 pub const MESSAGE_LIMIT: usize = 100_000;

@@ -3,6 +3,7 @@
 //! A transcript has a line `$ WORD WORD ..` for each run. Behind it stand the output, the status and whether a history was
 //! handed out, and where bytes went over the links these bytes.
 use kumo_base::{Bytes, Text};
+use kumo_disk::MemDisk;
 use kumo_outside::{MemSink, MemTexts, RegexSearch};
 use kumo_run::{ScriptedLinker, perform};
 use std::alloc::Global;
@@ -80,7 +81,7 @@ fn run(alloc: Global, line: &str, texts: &str, failing: &Failing<'_>) -> Result<
         words.as_slice(),
         &mut texts,
         &mut out,
-        (),
+        MemDisk::new(alloc),
         (),
         search,
     );

@@ -1,3 +1,4 @@
 pub mod PlaceLemmas
 pub mod KeptLemmas
 pub mod IndexLemmas
+pub mod IdLemmas

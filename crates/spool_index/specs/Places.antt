@@ -1,8 +1,12 @@
 -- The pending messages of a spool in the order of their holding, and the bytes that a file of them takes.
-use Rattle.std.specs.Prelude.{ℕ, ◌+◌, ◌==◌, ◌&&◌, Bool, true, not, List, [], ◌∷◌, Option, if◌then◌else◌, sum_by}
+use Rattle.std.specs.Prelude.{ℕ, ◌+◌, ◌==◌, ◌&&◌, Bool, true, not, List, [], ◌∷◌, Option, if◌then◌else◌, sum_by, map}
 use Rattle.std.specs.List.{list_any}
 use Rattle.std.specs.List as list
 use Rattle.spool_index.specs.declared.place.Place.{Place}
+
+-- the ids of messages
+abbrev pub ids_of : List Place → List ℕ
+ids_of places = map (λ p. p.id) places
 
 -- some message has this id
 abbrev pub has : ℕ → List Place → Bool

@@ -1,5 +1,5 @@
 -- What one more record of each kind leaves pending.
-use Rattle.std.proofs.Common.{◌≡◌, ◌⊎◌, ℕ, ◌+◌, List, [], ◌∷◌, ◌++◌, length, Bool, true, false, Option, Some, None, refl, sym, ◌∙◌, ap, arith}
+use Rattle.std.proofs.Common.{◌≡◌, ℕ, ◌+◌, List, [], ◌∷◌, ◌++◌, length, true, false, Some, sym, ◌∙◌, ap}
 use Rattle.queue_name.specs.declared.message.Message.{Message}
 use Rattle.kumo_disk.specs.Disk.{DiskSeen, ReadMoves}
 use Rattle.kumo_disk.specs.Calls.{Ran}
@@ -7,8 +7,8 @@ use Rattle.spool_log.specs.Area.{LogRecord, Adds, Added}
 use Rattle.spool_log.specs.Log.{IsReady}
 use Rattle.spool_log.specs.declared.log.Log.{Log}
 use Rattle.spool_format.specs.Held.{held_payload, held_in}
-use Rattle.spool_format.specs.Settled.{settled_payload, settled_in}
-use Rattle.spool_format.specs.Deferred.{deferred_payload, deferred_in}
+use Rattle.spool_format.specs.Settled.{settled_in}
+use Rattle.spool_format.specs.Deferred.{deferred_in}
 use Rattle.spool_format.specs.declared.deferred.Deferral.{Deferral}
 use Rattle.spool_format.specs.declared.kept.Kept.{Kept}
 use Rattle.spool_index.specs.declared.place.Place.{Place}

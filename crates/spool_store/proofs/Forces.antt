@@ -1,18 +1,17 @@
 -- The area in force, and what it stands for.
-use Rattle.std.proofs.Common.{◌≡◌, ◌≢◌, ◌⊎◌, inl, inr, ℕ, zero, suc, ◌+◌, ◌%◌, ◌≤◌, ◌<◌, ◌^◌, List, [], ◌∷◌, ◌++◌, length, take, drop, get_or, Option, Some, None, refl, sym, ◌∙◌, subst, ap, arith, cond, Bool, true, false, ◌==◌}
+use Rattle.std.proofs.Common.{◌≡◌, ◌≢◌, inl, inr, ℕ, zero, suc, ◌+◌, ◌%◌, ◌≤◌, ◌<◌, ◌^◌, List, [], ◌∷◌, ◌++◌, length, Option, Some, None, refl, sym, ◌∙◌, subst, ap, arith}
 use Rattle.std.specs.Int.{from_be_bytes, to_be_bytes, w64}
 use Rattle.std.proofs.lemmas.Nat.{from_be_bytes-to_be_bytes_8}
 use Rattle.std.proofs.lemmas.Bool.Decides.{nat_tests}
 use Rattle.std.proofs.lemmas.List.{append_assoc, length-append}
 use Rattle.kumo_disk.specs.Disk.{Image, area_of}
-use Rattle.spool_log.specs.Area.{LogRecord, bytes_of, bytes_of_all, header_of, header_rest, Form, IsVersion}
-use Rattle.spool_log.specs.Head.{start_of, header_in, version_in, version_by, generation_in, by_length, by_magic, first_wrong, magic}
+use Rattle.spool_log.specs.Area.{LogRecord, bytes_of, bytes_of_all, header_of, Form, IsVersion}
+use Rattle.spool_log.specs.Head.{start_of, header_in, version_by, by_length}
 use Rattle.spool_log.specs.declared.head.Header.{Header}
-use Rattle.spool_log.specs.declared.head.Start.{Start}
-use Rattle.spool_log.specs.declared.head.Start.TheVariants.{Blank, Wrong, Headed}
+use Rattle.spool_log.specs.declared.head.Start.TheVariants.{Headed}
 use Rattle.spool_log.proofs.Headers.{by_length_long}
 use Rattle.spool_store.specs.Content.{Item, after, and_then, played}
-use Rattle.spool_store.specs.Reading.{Reading, Sound, Broken, IsSound, Walks, Force, Nothing, InForce, Faulty, by_generation, force_in, force_of, by_force, Reads}
+use Rattle.spool_store.specs.Reading.{Reading, Sound, IsSound, Walks, Force, InForce, by_generation, force_in, by_force, Reads}
 use Rattle.spool_store.specs.Standing.{Standing}
 
 abbrev header : ℕ → ℕ → Header

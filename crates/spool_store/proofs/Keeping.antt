@@ -1,9 +1,7 @@
 -- What calls on a spool keep of its pending messages, at any moment of a crash.
-use Rattle.std.proofs.Common.{◌≡◌, ◌≢◌, ◌⊎◌, inl, inr, ⊎_elim, ℕ, zero, suc, ◌+◌, ◌≤◌, ◌<◌, ◌^◌, List, [], ◌∷◌, ◌++◌, length, Option, Some, None, IfSome, MatchOption, refl, sym, ◌∙◌, subst, ap, arith}
-use Rattle.std.specs.Bool.{⊤}
-use Rattle.std.proofs.lemmas.Bool.{cases_eq}
+use Rattle.std.proofs.Common.{◌≡◌, ◌≢◌, ◌⊎◌, inl, inr, ⊎_elim, ℕ, zero, suc, ◌+◌, ◌<◌, List, [], ◌∷◌, ◌++◌, length, Option, Some, None, MatchOption, refl, sym, ◌∙◌, subst, ap, arith}
 use Rattle.std.proofs.lemmas.List.{length-append}
-use Rattle.kumo_disk.specs.Disk.{Image, area_of, DiskSeen, Lasts, Moved, Each, ReadMoves, IsDurable, Same, Any}
+use Rattle.kumo_disk.specs.Disk.{Image, area_of, DiskSeen, Moved, Each, ReadMoves, Any}
 use Rattle.kumo_disk.specs.Calls.{Ran}
 use Rattle.kumo_disk.proofs.Runs.{at_some, if_some, moved_from, untold_from, told_before, lasts_now, lasts_then}
 use Rattle.spool_log.specs.Area.{LogRecord, bytes_of, bytes_of_all, header_of, Form, Adds, Added}

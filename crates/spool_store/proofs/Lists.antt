@@ -1,19 +1,19 @@
 -- The lists of a spool: items, their messages, and their places.
-use Rattle.std.proofs.Common.{◌≡◌, ℕ, ◌+◌, ◌<◌, ◌≤◌, ◌^◌, List, [], ◌∷◌, ◌++◌, length, map, Bool, true, false, ◌==◌, Option, Some, None, refl, sym, ◌∙◌, ap, arith, cond}
+use Rattle.std.proofs.Common.{◌≡◌, ℕ, ◌+◌, ◌<◌, ◌^◌, List, [], ◌∷◌, ◌++◌, length, Bool, true, false, ◌==◌, Option, Some, None, refl, ◌∙◌, ap, arith, cond}
 use Rattle.std.specs.Prelude.{unwrap_or}
 use Rattle.std.proofs.lemmas.List.{length-append}
 use Rattle.queue_name.specs.Message.{IsProperMessage}
 use Rattle.queue_name.specs.declared.message.Message.{Message}
 use Rattle.spool_format.specs.Fields.{text_field}
 use Rattle.spool_format.specs.Held.{held_payload, held_in}
-use Rattle.spool_format.specs.Settled.{settled_payload, settled_in}
-use Rattle.spool_format.specs.Deferred.{deferred_payload, deferred_in}
+use Rattle.spool_format.specs.Settled.{settled_in}
+use Rattle.spool_format.specs.Deferred.{deferred_in}
 use Rattle.spool_format.specs.declared.deferred.Deferral.{Deferral}
 use Rattle.spool_format.specs.declared.kept.Kept.{Kept}
 use Rattle.spool_format.proofs.LengthLemmas.{short}
 use Rattle.spool_index.specs.declared.place.Place.{Place}
 use Rattle.spool_index.specs.Places.{has, without, with_delay, delayed}
-use Rattle.spool_store.specs.Content.{Item, fresh, kept_of, place_of, places_of, has_item, without_item, deferred, with_deferral, hold_in, settle_in, defer_in, after, without_kept, with_deferral_kept, deferred_kept}
+use Rattle.spool_store.specs.Content.{Item, fresh, kept_of, place_of, places_of, without_item, deferred, with_deferral, hold_in, settle_in, defer_in, after, without_kept, with_deferral_kept, deferred_kept}
 
 pub places-without : (id : ℕ) (items : List Item) → places_of (without_item id items) ≡ without id (places_of items)
 places-without id [] = refl

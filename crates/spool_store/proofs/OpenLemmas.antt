@@ -1,11 +1,11 @@
 -- What opening a spool does to it.
-use Rattle.std.proofs.Common.{◌≡◌, ◌≢◌, ◌⊎◌, inl, inr, ⊎_elim, ℕ, zero, suc, ◌+◌, ◌%◌, ◌≤◌, ◌<◌, ◌^◌, List, [], ◌∷◌, length, map, Bool, true, false, ◌==◌, eqb, cond, Option, Some, None, IfSome, MatchOption, Result, OnOk, refl, sym, ◌∙◌, subst, ap, arith}
+use Rattle.std.proofs.Common.{◌≡◌, ◌⊎◌, inl, ⊎_elim, ℕ, ◌+◌, ◌%◌, ◌≤◌, ◌<◌, ◌^◌, List, [], length, Bool, true, false, eqb, cond, Option, Some, None, IfSome, MatchOption, Result, OnOk, refl, sym, ◌∙◌, subst, ap, arith}
 use Rattle.std.specs.Bool.{⊤}
-use Rattle.kumo_disk.specs.Disk.{Image, area_of, DiskSeen, Lasts, Moved, Each, ReadMoves, IsDurable, Any, Same}
+use Rattle.kumo_disk.specs.Disk.{Image, area_of, DiskSeen, Moved, Each, ReadMoves, IsDurable, Any}
 use Rattle.kumo_disk.specs.Calls.{Ran}
-use Rattle.kumo_disk.proofs.Runs.{at_some, if_some, told_before, moved_from, ran_as, durable_elsewhere}
+use Rattle.kumo_disk.proofs.Runs.{at_some, if_some, told_before, ran_as, durable_elsewhere}
 use Rattle.kumo_disk.proofs.Known.{ran_by, left_any, left_durable, told_after}
-use Rattle.spool_log.specs.Area.{LogRecord, Form, IsVersion, IsForm}
+use Rattle.spool_log.specs.Area.{Form, IsVersion, IsForm}
 use Rattle.spool_log.specs.Head.{start_of, Clears}
 use Rattle.spool_log.specs.Log.{IsFound, IsReady, Creates}
 use Rattle.spool_log.specs.declared.head.Header.{Header}
@@ -17,17 +17,16 @@ use Rattle.spool_log.specs.declared.log.Found.TheVariants as found
 use Rattle.spool_log.proofs.Bytes.{on_ok_as}
 use Rattle.spool_format.specs.declared.kept.Kept.{Kept}
 use Rattle.spool_index.specs.declared.place.Place.{Place}
-use Rattle.spool_store.specs.Content.{Item, played, places_of, kept_of}
-use Rattle.spool_store.specs.Reading.{Reading, Sound, Broken, Breaks, IsSound, Force, Nothing, InForce, Faulty, by_generation, force_of, force_in, by_force, Reads, Recovers, HasContent}
+use Rattle.spool_store.specs.Content.{Item, places_of, kept_of}
+use Rattle.spool_store.specs.Reading.{Reading, Sound, Broken, Force, Nothing, InForce, Faulty, by_generation, force_of, force_in, by_force, Reads, Recovers, HasContent}
 use Rattle.spool_store.specs.Crash.{IsOnDisk, Since, StandsForRead}
 use Rattle.spool_store.specs.Store.{IsOpenFault}
 use Rattle.spool_store.specs.declared.faults.OpenFault.{OpenFault}
 use Rattle.spool_store.specs.declared.faults.OpenFault.TheVariants as open_fault
 use Rattle.spool_store.specs.Standing.{Standing, Stands}
-use Rattle.spool_store.specs.inside.Opening.{IsStill, IsNoDamage, IsOfDisk, IsLogOf, IsEither, IsWrongHeader, start_found, first_header, Begins}
-use Rattle.spool_store.specs.declared.open.Choice.TheVariants as choice
+use Rattle.spool_store.specs.inside.Opening.{IsStill, IsNoDamage, IsOfDisk, IsLogOf, IsWrongHeader, start_found, first_header, Begins}
 use Rattle.spool_store.specs.inside.Replay.{IsReplayed, BreaksAt, AllStandThere, AreRead}
-use Rattle.spool_store.proofs.Forces.{start_form, is_sound, reads_walk, standing_reads}
+use Rattle.spool_store.proofs.Forces.{start_form, reads_walk, standing_reads}
 use Rattle.spool_store.proofs.Payloads.{payloads_stand}
 use Rattle.spool_store.proofs.StillLemmas.{durable_on_disk, on_disk_both, on_disk_still}
 

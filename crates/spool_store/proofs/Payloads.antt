@@ -1,5 +1,5 @@
 -- The payload of each pending message stands where its item says.
-use Rattle.std.proofs.Common.{◌≡◌, ℕ, ◌+◌, ◌≤◌, ◌<◌, List, [], ◌∷◌, ◌++◌, length, take, drop, Bool, true, false, ◌==◌, ◌&&◌, cond, eqb, Option, Some, None, refl, sym, ◌∙◌, subst, ap, arith}
+use Rattle.std.proofs.Common.{◌≡◌, ℕ, ◌+◌, List, [], ◌∷◌, ◌++◌, length, take, drop, Bool, true, false, ◌&&◌, cond, eqb, Option, Some, None, refl, sym, ◌∙◌, subst, ap, arith}
 use Rattle.std.proofs.lemmas.List.{take_at, drop_at, drop-drop, length-drop, length-append, append_assoc}
 use Rattle.queue_name.specs.declared.message.Message.{Message}
 use Rattle.spool_log.specs.Area.{LogRecord, bytes_of, bytes_of_all, header_of, Form}

@@ -11,11 +11,11 @@ use Rattle.spool_format.specs.Settled.{settled_in}
 use Rattle.spool_format.specs.Deferred.{IsProperDeferral, deferred_in}
 use Rattle.spool_format.specs.declared.deferred.Deferral.{Deferral}
 use Rattle.spool_format.proofs.ReadLemmas.{held_long, deferred_proper}
-use Rattle.spool_index.specs.declared.place.Place.{Place}
 use Rattle.spool_index.specs.Places.{has, are_distinct}
 use Rattle.spool_index.proofs.PlaceLemmas.{distinct_push}
 use Rattle.spool_store.specs.Content.{Item, fresh, place_of, places_of, without_item, with_deferral, deferred, has_item, hold_in, settle_in, defer_in, after, played}
 use Rattle.spool_store.proofs.Unique.{then_some}
+use Rattle.spool_store.proofs.Lists.{places-append}
 
 -- the deferral that a pending message has
 abbrev pub deferral : Item → Deferral
@@ -37,10 +37,6 @@ pub record AreGood (bytes : List ℕ) (items : List Item) : Type 0 where
   pub held : AreHeld bytes items
   pub distinct : are_distinct (places_of items) ≡ true
 
-pub places_push : (items : List Item) (i : Item) → places_of (items ++ i ∷ []) ≡ places_of items ++ place_of i ∷ []
-places_push [] i = refl
-places_push (j ∷ items) i = ap (λ (l : List Place). place_of j ∷ l) (places_push items i)
-
 -- one more
 held_push : (bytes : List ℕ) (items : List Item) (i : Item) → AreHeld bytes items → IsHeldAt bytes i → AreHeld bytes (items ++ i ∷ [])
 held_push bytes [] i held is = (is, tt)
@@ -49,7 +45,7 @@ held_push bytes (j ∷ items) i held is = (held.0, held_push bytes items i held.
 good_push : (bytes : List ℕ) (items : List Item) (i : Item) → AreGood bytes items → IsHeldAt bytes i → has_item i.kept.message.id items ≡ false → AreGood bytes (items ++ i ∷ [])
 good_push bytes items i good is new = record {
   held = held_push bytes items i good.held is;
-  distinct = ap are_distinct (places_push items i) ∙ distinct_push (places_of items) (place_of i) good.distinct new;
+  distinct = ap are_distinct (places-append items (i ∷ [])) ∙ distinct_push (places_of items) (place_of i) good.distinct new;
 }
 
 -- one less

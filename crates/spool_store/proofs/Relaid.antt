@@ -16,7 +16,8 @@ use Rattle.spool_index.proofs.PlaceLemmas.{distinct_parts, distinct_instead}
 use Rattle.spool_store.specs.Content.{Item, fresh, kept_of, place_of, places_of, with_deferral, deferred, has_item, hold_in, defer_in, after, and_then, played}
 use Rattle.spool_store.specs.Store.{unplaced}
 use Rattle.spool_store.specs.inside.Rewriting.{deferral_of, copy_of, copies_of, AreWithin}
-use Rattle.spool_store.proofs.Pieces.{deferral, IsHeldAt, AreHeld, AreGood, places_push}
+use Rattle.spool_store.proofs.Lists.{places-append}
+use Rattle.spool_store.proofs.Pieces.{deferral, IsHeldAt, AreHeld, AreGood}
 
 -- the same messages, whose records stand one after the other from an offset on
 abbrev pub relaid : ℕ → List Item → List Item
@@ -139,7 +140,7 @@ copies_played bytes at done (i ∷ items) held distinct =
     let now : Item = record { at = at + 6; kept = i.kept } in
     let parts = distinct_parts (places_of done) (place_of i) (places_of items) distinct in
     let still : are_distinct (places_of (done ++ now ∷ []) ++ places_of items) ≡ true =
-    ap (λ (l : List Place). are_distinct (l ++ places_of items)) (places_push done now)
+    ap (λ (l : List Place). are_distinct (l ++ places_of items)) (places-append done (now ∷ []))
     ∙ ap are_distinct (append_assoc (places_of done) (place_of now ∷ []) (places_of items))
     ∙ distinct_instead (places_of done) (place_of i) (place_of now) (places_of items) refl ∙ distinct in
     copy_played bytes at done i held.0 parts.0 (copies_of bytes (places_of items))

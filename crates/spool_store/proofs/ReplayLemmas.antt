@@ -1,9 +1,9 @@
 -- The records of an area, read one after the other.
-use Rattle.std.proofs.Common.{◌≡◌, ◌≢◌, ℕ, ◌+◌, ◌≤◌, ◌<◌, ◌^◌, List, [], ◌∷◌, ◌++◌, length, take, drop, get_or, Bool, true, false, Option, Some, None, IfSome, IfNone, MatchOption, refl, sym, ◌∙◌, subst, ap, arith}
+use Rattle.std.proofs.Common.{◌≡◌, ◌≢◌, ℕ, ◌+◌, ◌≤◌, ◌<◌, ◌^◌, List, [], ◌∷◌, ◌++◌, length, drop, get_or, true, false, Option, Some, None, IfSome, IfNone, MatchOption, refl, sym, ◌∙◌, subst, ap, arith}
 use Rattle.std.proofs.lemmas.List.{drop_at, take-append-drop, append_assoc, length-append, drop_more}
 use Rattle.kumo_disk.specs.Disk.{Image, area_of, DiskSeen}
 use Rattle.kumo_disk.proofs.Runs.{at_some, if_some}
-use Rattle.spool_log.specs.Area.{LogRecord, bytes_of, bytes_of_all, header_of, header_rest, Form, RecordAt, IsDamaged, IsVersion, AreSmall}
+use Rattle.spool_log.specs.Area.{LogRecord, bytes_of, bytes_of_all, header_of, RecordAt, IsDamaged, IsVersion}
 use Rattle.spool_log.specs.Head.{header_in, version_in}
 use Rattle.spool_log.specs.Log.{StepAt, FaultAt, IsFound}
 use Rattle.spool_log.specs.declared.head.Header.{Header}
@@ -15,9 +15,9 @@ use Rattle.spool_log.specs.declared.read.LogFault.{LogFault}
 use Rattle.spool_log.specs.declared.read.LogFault.TheVariants as log_fault
 use Rattle.spool_log.proofs.Forms.{bytes-push, small-push}
 use Rattle.spool_index.specs.declared.place.Place.{Place}
-use Rattle.spool_store.specs.Content.{Item, after, played, places_of}
+use Rattle.spool_store.specs.Content.{after, played}
 use Rattle.spool_store.specs.Reading.{Breaks}
-use Rattle.spool_store.specs.inside.Replay.{Takes, Seen, IsReplaying, IsReplayed, BreaksAt}
+use Rattle.spool_store.specs.inside.Replay.{Takes, Seen, IsReplaying, IsReplayed}
 use Rattle.spool_store.specs.inside.Opening.{IsStill}
 use Rattle.spool_store.proofs.StillLemmas.{still_now, still_then}
 use Rattle.spool_store.proofs.Unique.{same_record_at}

@@ -1,5 +1,5 @@
 -- Calls that change nothing of a disk.
-use Rattle.std.proofs.Common.{◌≡◌, ◌≢◌, ◌⊎◌, inl, inr, ⊎_elim, ℕ, ◌≤◌, ◌<◌, List, Option, Some, None, IfSome, MatchOption, Result, Ok, Err, OnOk, refl, sym, ◌∙◌, subst, ap, arith}
+use Rattle.std.proofs.Common.{◌≡◌, inl, inr, ⊎_elim, ℕ, ◌≤◌, List, Option, Some, None, IfSome, MatchOption, Result, Ok, Err, OnOk, refl, sym, ◌∙◌, subst, ap, arith}
 use Rattle.std.proofs.lemmas.Bool.{cases_eq}
 use Rattle.kumo_disk.specs.Disk.{Image, area_of, DiskSeen, Lasts, Moved, Each, IsDurable, Same}
 use Rattle.kumo_disk.specs.Calls.{Ran}

@@ -289,6 +289,16 @@ module _ (log : Log) (places : List Place) (a : DiskSeen) (stands : Stands log p
             ));
       }
 
+-- a draft of all messages in the other area was opened
+pub since_anew : (log : Log) (places : List Place) (a d e : DiskSeen) (draft : Draft) (end : ℕ) → Stands log places a
+    → draft ≡ record { area = 1 - log.area; header = record { version = 2; generation = (log.header.generation + 1) % 2 ^ 64 }; end = end } → HasDraft draft d
+    → IfSome a.told (λ read. IsDraft draft (copies_of (area_of log.area read) places) d) → Ran (1 - log.area) Clears a d
+    → ((rs : List LogRecord) → IsDraft draft rs d → Ran draft.area (Opens draft.header rs draft.end) d e) → Since StandsForRead a e
+since_anew log places a d e draft end stands made has drafted copied opened =
+    since_turns log places a stands (1 - log.area) (other_below log.area stands.ready.area) (other_apart log.area stands.ready.area) draft d e
+    (ap (λ (d : Draft). d.header.version) made) (ap (λ (d : Draft). d.header.generation) made) has drafted
+    (opened_ran (1 - log.area) draft a d e (ap (λ (d : Draft). d.area) made) copied opened)
+
 -- before any call each image is what was read
 pub since_now : (log : Log) (places : List Place) (a : DiskSeen) → Stands log places a → Since StandsForRead a a
 since_now log places a stands = since_clears log places a stands (1 - log.area) (other_below log.area stands.ready.area) (other_apart log.area stands.ready.area) a (ran_now (1 - log.area) Clears a (λ b. inl refl))

@@ -1,15 +1,19 @@
 -- The bytes of both areas stand for one thing.
-use Rattle.std.proofs.Common.{◌≡◌, ◌≢◌, ◌⊎◌, inl, inr, ℕ, zero, suc, ◌+◌, ◌≤◌, ◌<◌, ◌^◌, List, [], ◌∷◌, ◌++◌, length, take, drop, get_or, Option, Some, None, refl, sym, ◌∙◌, subst, ap, arith}
+use Rattle.std.proofs.Common.{◌≡◌, ◌≢◌, ℕ, zero, suc, ◌+◌, ◌≤◌, ◌<◌, ◌^◌, List, [], ◌∷◌, ◌++◌, length, take, drop, get_or, Option, Some, None, refl, sym, ◌∙◌, subst, ap, arith}
 use Rattle.std.specs.Int.{from_be_bytes, w32}
 use Rattle.std.proofs.lemmas.Nat.{from_be_bytes-to_be_bytes_4}
 use Rattle.std.proofs.lemmas.List.{take_at, drop_at, append_assoc, append_cancel_left, length-append}
-use Rattle.kumo_disk.specs.Disk.{Image}
-use Rattle.spool_log.specs.Area.{LogRecord, bytes_of, bytes_of_all, header_of, Form, RecordAt, AreSmall}
-use Rattle.spool_log.specs.Head.{start_of, header_in, version_in}
+use Rattle.kumo_disk.specs.Disk.{Image, DiskSeen}
+use Rattle.kumo_disk.proofs.Runs.{at_some}
+use Rattle.spool_log.specs.Area.{LogRecord, bytes_of, bytes_of_all, header_of, RecordAt, AreSmall}
+use Rattle.spool_log.specs.Head.{header_in, version_in}
 use Rattle.spool_log.specs.declared.head.Header.{Header}
 use Rattle.spool_format.specs.declared.kept.Kept.{Kept}
 use Rattle.spool_store.specs.Content.{Item, after, and_then, played, kept_of}
 use Rattle.spool_store.specs.Reading.{Reading, Sound, Broken, Breaks, IsSound, Walks, Force, Nothing, InForce, Faulty, force_in, by_force, Reads, Recovers}
+use Rattle.spool_store.specs.Crash.{MayLeave}
+use Rattle.spool_store.specs.Store.{live_size_of}
+use Rattle.spool_store.specs.declared.limits.TheConstants.{AREA_LIMIT}
 
 abbrev of : ℕ → List ℕ → LogRecord
 of kind payload = record { kind = kind; payload = payload }
@@ -161,3 +165,27 @@ items_same image ms ns one two = inside (reads_same image (Sound ms) (Sound ns) 
 -- and one list of pending messages
 pub kept_same : (image : Image) (items : List Item) (kept : List Kept) → Reads image (Sound items) → Recovers image kept → kept ≡ kept_of items
 kept_same image items kept reads recovers = recovers.same ∙ ap (λ (l : List Item). kept_of l) (items_same image recovers.items items recovers.reads reads)
+
+pub broken_same : (image : Image) (m n at to : ℕ) → Reads image (Broken m at) → Reads image (Broken n to) → (m ≡ n) × (at ≡ to)
+broken_same image m n at to one two = inside (reads_same image (Broken m at) (Broken n to) one two)
+  where
+    inside : Broken m at ≡ Broken n to → (m ≡ n) × (at ≡ to)
+    inside is = (cc, cc)
+
+pub never_both : (image : Image) (items : List Item) (n at : ℕ) → Reads image (Sound items) → Reads image (Broken n at) → ⊥
+never_both image items n at one two = clash (reads_same image (Sound items) (Broken n at) one two)
+  where
+    clash : Sound items ≡ Broken n at → ⊥
+    clash is = cc
+
+pub recovered_same : (image : Image) (a b : List Kept) → Recovers image a → Recovers image b → a ≡ b
+recovered_same image a b one two = kept_same image two.items a two.reads one ∙ sym two.same
+
+-- what a crash leaves has the same messages
+pub left_recovers : (kept : List Kept) (seen : DiskSeen) (image : Image) → MayLeave kept seen image → Recovers image kept
+left_recovers kept seen image left = subst (λ (i : Image). Recovers i kept) (sym (at_some (λ read. (image : Image) → seen.left seen.moment image → image ≡ read) seen.told left.read left.told left.on_disk image left.left))
+    (at_some (λ read. Recovers read kept) seen.told left.read left.told left.content)
+
+pub left_large : (kept others : List Kept) (seen : DiskSeen) (image : Image) → MayLeave kept seen image → live_size_of kept ≤ AREA_LIMIT → Recovers image others → AREA_LIMIT < live_size_of others → ⊥
+left_large kept others seen image left within recovers large =
+    omega (arith, within, large, ap (λ (l : List Kept). live_size_of l) (recovered_same image others kept recovers (left_recovers kept seen image left)))

@@ -1,16 +1,20 @@
 -- Pending messages without the places of their records, and the bytes that they may need.
-use Rattle.std.proofs.Common.{◌≡◌, ◌⊎◌, inl, inr, ⊎_elim, ℕ, ◌+◌, ◌*◌, ◌≤◌, ◌<◌, List, [], ◌∷◌, ◌++◌, length, map, Bool, true, false, ◌==◌, ◌||◌, refl, sym, ◌∙◌, subst, ap, arith, cond}
+use Rattle.std.proofs.Common.{◌≡◌, ℕ, ◌+◌, ◌*◌, ◌≤◌, List, [], ◌∷◌, ◌++◌, length, map, Bool, true, false, ◌==◌, ◌||◌, refl, sym, ◌∙◌, ap, arith, cond}
 use Rattle.std.specs.Prelude.{sum_by}
-use Rattle.std.proofs.lemmas.List.{length-map, map-append, length-append}
+use Rattle.std.proofs.lemmas.List.{length-map}
 use Rattle.std.proofs.lemmas.List.Sums.{sum_by-append}
 use Rattle.spool_index.specs.declared.place.Place.{Place}
-use Rattle.spool_index.specs.Places.{has, without, with_delay, delayed, record_size, live_cost, compacted_cost, live_size, compacted_size}
+use Rattle.spool_index.specs.Places.{ids_of, has, without, with_delay, delayed, record_size, live_cost, compacted_cost, live_size, compacted_size}
 use Rattle.spool_index.proofs.PlaceLemmas.{sum_between}
 use Rattle.spool_store.specs.Store.{unplaced}
 
 pub has-unplaced : (id : ℕ) (ps : List Place) → has id (map unplaced ps) ≡ has id ps
 has-unplaced id [] = refl
 has-unplaced id (p ∷ ps) = ap (λ (t : Bool). (p.id == id) || t) (has-unplaced id ps)
+
+pub ids-unplaced : (ps : List Place) → ids_of (map unplaced ps) ≡ ids_of ps
+ids-unplaced [] = refl
+ids-unplaced (p ∷ ps) = ap (λ (l : List ℕ). p.id ∷ l) (ids-unplaced ps)
 
 pub without-unplaced : (id : ℕ) (ps : List Place) → map unplaced (without id ps) ≡ without id (map unplaced ps)
 without-unplaced id [] = refl

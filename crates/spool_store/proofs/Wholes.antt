@@ -1,10 +1,10 @@
 -- What a store that is not down keeps, through its calls.
-use Rattle.std.proofs.Common.{◌≡◌, ◌⊎◌, inl, inr, ⊎_elim, ℕ, ◌+◌, ◌*◌, ◌≤◌, ◌<◌, List, [], ◌∷◌, ◌++◌, length, map, min, true, IfSome, refl, sym, ◌∙◌, subst, ap, arith}
+use Rattle.std.proofs.Common.{◌≡◌, ◌⊎◌, inl, inr, ⊎_elim, ℕ, ◌+◌, ◌*◌, ◌≤◌, ◌<◌, List, [], ◌∷◌, ◌++◌, length, map, min, true, IfSome, sym, ◌∙◌, subst, ap, arith}
 use Rattle.std.proofs.lemmas.List.{length-map, length-append}
 use Rattle.kumo_disk.specs.Disk.{DiskSeen}
 use Rattle.spool_log.specs.declared.log.Log.{Log}
 use Rattle.spool_index.specs.declared.place.Place.{Place}
-use Rattle.spool_index.specs.Places.{has, without, with_delay, live_cost, live_size, compacted_size}
+use Rattle.spool_index.specs.Places.{has, without, with_delay, live_size, compacted_size}
 use Rattle.spool_store.specs.declared.limits.TheConstants.{AREA_LIMIT}
 use Rattle.spool_format.specs.declared.kept.Kept.{Kept}
 use Rattle.kumo_disk.proofs.Runs.{at_some, if_some}
@@ -30,6 +30,13 @@ held_whole later ps qs w room size b within stands version same size_is full fit
       room_within = omega (arith, one_more, within);
       fits = ⊎_elim (λ fit. omega (arith, fit, one_more)) (λ anew. omega (arith, anew, one_more, compacted_room ps, within, full)) fits;
     }
+
+-- so there is room for what may still come
+pub room_left : (log : Log) (ps : List Place) (room : ℕ) (a : DiskSeen) → IsWhole log ps room a → log.end + 1 + 22 * length (map unplaced ps) + 34 * room ≤ AREA_LIMIT
+room_left log ps room a whole = omega (arith, whole.fits, length-map ps unplaced)
+
+pub live_within : (log : Log) (ps : List Place) (room : ℕ) (a : DiskSeen) → IsWhole log ps room a → live_size (map unplaced ps) ≤ AREA_LIMIT
+live_within log ps room a whole = omega (arith, whole.live, live-unplaced ps)
 
 -- the same messages, where they were or written anew
 pub kept_whole : (old later : Log) (ps qs : List Place) (before room : ℕ) (a b : DiskSeen) → IsWhole old ps before a → Stands later qs b → later.header.version ≡ 2 → map unplaced qs ≡ map unplaced ps → room ≤ length ps

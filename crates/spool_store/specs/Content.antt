@@ -1,5 +1,5 @@
 -- What a list of records leaves pending: each message with its failures and due moment, in the order of holding.
-use Rattle.std.specs.Prelude.{◌≡◌, ℕ, ◌+◌, List, [], ◌∷◌, ◌++◌, length, map, Option, Some, None, Bool, ◌&&◌, ◌==◌, if◌then◌else◌}
+use Rattle.std.specs.Prelude.{ℕ, ◌+◌, List, [], ◌∷◌, ◌++◌, length, map, Option, Some, None, Bool, ◌&&◌, ◌==◌, if◌then◌else◌}
 use Rattle.queue_name.specs.declared.message.Message.{Message}
 use Rattle.spool_log.specs.Area.{LogRecord, bytes_of}
 use Rattle.spool_format.specs.Held.{held_payload, held_in}

@@ -1,12 +1,20 @@
 -- What a crash may leave of a spool, at any moment of a call or of several.
-use Rattle.std.specs.Prelude.{◌≡◌, ◌⊎◌, ℕ, List, Option, Some, None, IfSome, MatchOption}
+use Rattle.std.specs.Prelude.{◌≡◌, ◌⊎◌, ℕ, List, Some, None, IfSome, MatchOption}
 use Rattle.kumo_disk.specs.Disk.{Image, DiskSeen, Lasts}
 use Rattle.spool_format.specs.declared.kept.Kept.{Kept}
-use Rattle.spool_store.specs.Reading.{Reads, Broken, Recovers}
+use Rattle.spool_store.specs.Reading.{Reads, Broken, Recovers, HasContent}
 
 -- a crash leaves what a read gives, and nothing else
 abbrev pub IsOnDisk : DiskSeen → Type 0
 IsOnDisk seen = IfSome seen.told (λ read. (image : Image) → seen.left seen.moment image → image ≡ read)
+
+-- A crash may leave this image now of a disk that tells what a read gives, and that has these messages pending.
+pub record MayLeave (kept : List Kept) (seen : DiskSeen) (image : Image) : Type 0 where
+  pub read : Image
+  pub told : seen.told ≡ Some read
+  pub content : HasContent kept seen
+  pub on_disk : IsOnDisk seen
+  pub left : seen.left seen.moment image
 
 -- Each image since the call began is so, by what was read when it began; the images from before are as they were; and what was
 -- told still is.

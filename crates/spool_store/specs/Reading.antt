@@ -1,5 +1,5 @@
 -- What the bytes of both areas stand for: the pending messages, or an area that is damaged from an offset on.
-use Rattle.std.specs.Prelude.{◌≡◌, ℕ, ◌+◌, ◌%◌, ◌^◌, List, [], ◌∷◌, ◌++◌, length, Option, Some, None, IfSome, ◌==◌, if◌then◌else◌}
+use Rattle.std.specs.Prelude.{◌≡◌, ℕ, ◌+◌, ◌%◌, ◌^◌, List, [], ◌∷◌, ◌++◌, length, Some, None, IfSome, ◌==◌, if◌then◌else◌}
 use Rattle.std.proofs.Common.{zero, suc}
 use Rattle.kumo_disk.specs.Disk.{Image, DiskSeen}
 use Rattle.spool_log.specs.Area.{LogRecord, bytes_of_all, header_of, Form, RecordAt, AreSmall}

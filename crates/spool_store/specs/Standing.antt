@@ -1,8 +1,8 @@
 -- How the areas stand while a store is used.
-use Rattle.std.specs.Prelude.{◌≡◌, ◌⊎◌, ℕ, ◌+◌, ◌<◌, ◌≤◌, List, [], ◌∷◌, ◌++◌, length, Option, Some, None, Result, IfErr, IfSome, MatchOption, ⊤}
+use Rattle.std.specs.Prelude.{◌≡◌, ℕ, ◌≤◌, List, [], Some, Result, IfErr, IfSome, ⊤}
 use Rattle.kumo_base.specs.Causes.{Rose}
 use Rattle.kumo_disk.specs.Disk.{Image, area_of, DiskSeen}
-use Rattle.spool_log.specs.Area.{LogRecord, bytes_of_all, header_of, Form, AreSmall}
+use Rattle.spool_log.specs.Area.{LogRecord, Form}
 use Rattle.spool_log.specs.Log.{IsReady}
 use Rattle.spool_log.specs.declared.head.Header.{Header}
 use Rattle.spool_log.specs.declared.log.Log.{Log}

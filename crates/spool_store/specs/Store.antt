@@ -2,7 +2,6 @@
 use Rattle.std.specs.Prelude.{◌≡◌, ℕ, ◌+◌, ◌*◌, ◌<◌, ◌≤◌, nat_le, nat_lt, List, [], ◌∷◌, ◌++◌, length, map, Bool, true, false, ◌&&◌, Result, IfErr, ⊤}
 use Rattle.kumo_base.specs.Causes.{Rose}
 use Rattle.kumo_disk.specs.Disk.{Image}
-use Rattle.queue_name.specs.declared.message.Message.{Message}
 use Rattle.spool_format.specs.Held.{held_payload}
 use Rattle.spool_format.specs.declared.kept.Kept.{Kept}
 use Rattle.spool_index.specs.declared.place.Place.{Place}

@@ -1,13 +1,14 @@
 //! The store: the messages that were accepted and have no fate yet, on a disk.
-ghost use Rattle.std.specs.Prelude.{◌≡◌, ◌⊎◌, ◌+◌, ◌*◌, ◌-◌, ◌++◌, ◌≤◌, ◌<◌, ◌^◌, min, List, [], ◌∷◌, length, map, Bool, true, false, IfOk, IfErr, IfSome, OnOk, MatchResult};
+ghost use Rattle.std.specs.Prelude.{◌≡◌, ◌⊎◌, ◌+◌, ◌*◌, ◌-◌, ◌++◌, ◌≤◌, ◌<◌, ◌^◌, min, List, [], ◌∷◌, length, map, Bool, true, false, IfOk, IfErr, IfSome, OnOk, MatchResult, Err};
 ghost use Rattle.kumo_base.specs.Causes.{HasCause, Rose};
 ghost use Rattle.queue_name.specs.Message.{IsProperMessage};
 ghost use Rattle.spool_format.specs.Deferred.{IsProperDeferral};
 ghost use Rattle.spool_format.specs.declared.kept.Kept.{Kept};
-ghost use Rattle.spool_index.specs.Places.{has, without, with_delay, live_size, compacted_size};
+ghost use Rattle.spool_index.specs.Places.{ids_of, has, without, with_delay, live_size, compacted_size};
 ghost use Rattle.spool_store.specs.Content.{fresh, without_kept, with_deferral_kept};
 ghost use Rattle.spool_store.specs.Reading.{Recovers, HasContent};
 ghost use Rattle.spool_store.specs.Crash.{Since, Either, IsOnDisk, IsOpened, IsNotSynced};
+ghost use Rattle.spool_store.specs.declared.faults.HoldFault.TheVariants as hold_fault;
 ghost use Rattle.spool_store.specs.Store.{StoreSeen, HasRoom, wants_compact, unplaced, waiting_of, IsOpenFault, IsOpenCause, IsHoldRefusal, IsSettleRefusal, IsCompactRefusal};
 
 use crate::faults::{CompactFault, HoldFault, OpenFault, RewriteFault, SettleFault};
@@ -61,10 +62,14 @@ impl<D: Disk + Drop> Store<D> {
         ensures pending { IfOk result (λ x. x.0.pending ≡ map waiting_of x.1.items) }
         ensures content { IfOk result (λ x. HasContent x.1.items (D.seen x.0.disk)) }
         ensures up { IfOk result (λ x. (x.0.down ≡ false) × (x.0.room ≡ 0)) }
+        ensures has_room { IfOk result (λ x. HasRoom x.0) }
+        ensures within { IfOk result (λ x. live_size x.0.pending ≤ AREA_LIMIT) }
         ensures on_disk { IfOk result (λ x. IsOnDisk (D.seen x.0.disk)) }
         ensures opened { IfOk result (λ x. IsOpened D.seen disk x.0.disk) }
         ensures stopped { IfErr result (λ e. IsNotSynced (D.seen disk) (D.seen e.1) ⊎ IsOpened D.seen disk e.1) }
         ensures faults { IfErr result (λ e. IsOpenCause (Rose (D.seen disk).faults (D.seen e.1).faults) e.0) }
+        ensures later { MatchResult result (λ x. (D.seen disk).faults ≤ (D.seen x.0.disk).faults)
+            (λ e. (D.seen disk).faults ≤ (D.seen e.1).faults) }
     {
         let mut disk = disk;
         match sync_both(&mut disk) {
@@ -94,6 +99,13 @@ impl<D: Disk + Drop> Store<D> {
         self.pending.len()
     }
 
+    /// The ids of all pending messages, in the order of holding.
+    pub fn pending(&self) -> &[u128]
+        ensures { result.now ≡ ids_of self.now.pending }
+    {
+        self.pending.ids()
+    }
+
     /// Whether a message is pending.
     pub fn contains(&self, id: u128) -> bool
         ensures { result ≡ has id self.now.pending }
@@ -111,8 +123,15 @@ impl<D: Disk + Drop> Store<D> {
         self.down
     }
 
-    /// Holds a message: at `Ok` it is on the disk. The refusals are tried in the order of their names; where the area would not have
-    /// room, the others are written anew first.
+    /// For how many deferrals there is room.
+    pub fn room(&self) -> u64
+        ensures { result ≡ self.now.room }
+    {
+        self.room
+    }
+
+    /// Holds a message: at `Ok` it is on the disk. `SpoolFull` comes exactly where the store is up and the pending messages with the
+    /// new one may need more than an area may have; where only the area in force has no room, the others are written anew first.
     pub fn hold(&mut self, message: &Message) -> Result<(), HoldFault>
         requires fresh { has message.now.id self.old.pending ≡ false }
         requires proper { IsProperMessage message.now }
@@ -122,10 +141,14 @@ impl<D: Disk + Drop> Store<D> {
         ensures content { (before : List Kept) → HasContent before (D.seen self.old.disk) → self.new.down ≡ false → MatchResult result
             (λ _. HasContent (before ++ fresh message.now ∷ []) (D.seen self.new.disk)) (λ _. HasContent before (D.seen self.new.disk)) }
         ensures on_disk { self.new.down ≡ false → IsOnDisk (D.seen self.new.disk) }
+        ensures has_room { self.new.down ≡ false → HasRoom self.new }
+        ensures within { self.new.down ≡ false → live_size self.new.pending ≤ AREA_LIMIT }
         ensures ok { OnOk result ((self.new.pending ≡ self.old.pending ++ waiting_of (fresh message.now) ∷ [])
             × (self.new.room ≡ self.old.room) × (self.old.down ≡ false) × (self.new.down ≡ false)) }
         ensures refused { IfErr result (IsHoldRefusal self.old self.new (waiting_of (fresh message.now))
             (Rose (D.seen self.old.disk).faults (D.seen self.new.disk).faults)) }
+        ensures full { self.old.down ≡ false → AREA_LIMIT < live_size (self.old.pending ++ waiting_of (fresh message.now) ∷ [])
+            → result ≡ Err hold_fault.SpoolFull }
         ensures faults { (D.seen self.old.disk).faults ≤ (D.seen self.new.disk).faults }
     {
         if self.down {
@@ -161,8 +184,11 @@ impl<D: Disk + Drop> Store<D> {
         ensures content { (before : List Kept) → HasContent before (D.seen self.old.disk)
             → OnOk result (HasContent (without_kept id before) (D.seen self.new.disk)) }
         ensures on_disk { self.new.down ≡ false → IsOnDisk (D.seen self.new.disk) }
+        ensures has_room { self.new.down ≡ false → HasRoom self.new }
+        ensures within { self.new.down ≡ false → live_size self.new.pending ≤ AREA_LIMIT }
         ensures ok { OnOk result ((self.new.pending ≡ without id self.old.pending)
             × (self.new.room ≡ min self.old.room (length self.new.pending)) × (self.old.down ≡ false) × (self.new.down ≡ false)) }
+        ensures length { OnOk result (self.new.length ≡ self.old.length + 22) }
         ensures refused { IfErr result (IsSettleRefusal self.old self.new (Rose (D.seen self.old.disk).faults (D.seen self.new.disk).faults)) }
         ensures faults { (D.seen self.old.disk).faults ≤ (D.seen self.new.disk).faults }
     {
@@ -192,8 +218,11 @@ impl<D: Disk + Drop> Store<D> {
         ensures content { (before : List Kept) → HasContent before (D.seen self.old.disk)
             → OnOk result (HasContent (with_deferral_kept deferral before) (D.seen self.new.disk)) }
         ensures on_disk { self.new.down ≡ false → IsOnDisk (D.seen self.new.disk) }
+        ensures has_room { self.new.down ≡ false → HasRoom self.new }
+        ensures within { self.new.down ≡ false → live_size self.new.pending ≤ AREA_LIMIT }
         ensures ok { OnOk result ((self.new.pending ≡ with_delay deferral.id deferral.failures deferral.due self.old.pending)
             × (self.new.room + 1 ≡ self.old.room) × (self.old.down ≡ false) × (self.new.down ≡ false)) }
+        ensures length { OnOk result (self.new.length ≡ self.old.length + 34) }
         ensures refused { IfErr result (IsSettleRefusal self.old self.new (Rose (D.seen self.old.disk).faults (D.seen self.new.disk).faults)) }
         ensures faults { (D.seen self.old.disk).faults ≤ (D.seen self.new.disk).faults }
     {
@@ -219,6 +248,8 @@ impl<D: Disk + Drop> Store<D> {
             → Since (λ read image. Recovers image kept) (D.seen self.old.disk) (D.seen self.new.disk) }
         ensures content { (kept : List Kept) → HasContent kept (D.seen self.old.disk) → self.new.down ≡ false → HasContent kept (D.seen self.new.disk) }
         ensures on_disk { self.new.down ≡ false → IsOnDisk (D.seen self.new.disk) }
+        ensures has_room { self.new.down ≡ false → HasRoom self.new }
+        ensures within { self.new.down ≡ false → live_size self.new.pending ≤ AREA_LIMIT }
         ensures ok { OnOk result ((self.new.pending ≡ self.old.pending) × (self.new.room ≡ deferrals)
             × (self.old.down ≡ false) × (self.new.down ≡ false)) }
         ensures refused { IfErr result (IsCompactRefusal self.old self.new (Rose (D.seen self.old.disk).faults (D.seen self.new.disk).faults)) }
@@ -260,6 +291,8 @@ impl<D: Disk + Drop> Store<D> {
             → Since (λ read image. Recovers image kept) (D.seen self.old.disk) (D.seen self.new.disk) }
         ensures content { (kept : List Kept) → HasContent kept (D.seen self.old.disk) → self.new.down ≡ false → HasContent kept (D.seen self.new.disk) }
         ensures on_disk { self.new.down ≡ false → IsOnDisk (D.seen self.new.disk) }
+        ensures has_room { self.new.down ≡ false → HasRoom self.new }
+        ensures within { self.new.down ≡ false → live_size self.new.pending ≤ AREA_LIMIT }
         ensures ok { OnOk result ((self.new.pending ≡ self.old.pending) × (self.new.room ≡ self.old.room)
             × (self.new.length ≡ compacted_size self.old.pending) × (self.old.down ≡ false) × (self.new.down ≡ false)) }
         ensures refused { IfErr result (IsCompactRefusal self.old self.new (Rose (D.seen self.old.disk).faults (D.seen self.new.disk).faults)) }

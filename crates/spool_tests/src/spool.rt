@@ -15,14 +15,15 @@ const HELD: &str = "010100000044000000000000000000000000000000010000000000000000
                     00b7340622e6578616d706c650000000b7540612e6578616d706c65000000000\
                     0000000000000026869";
 
-fn message(alloc: Global) -> Result<Message, Fail> {
+/// A message with this id and body.
+pub(crate) fn message(alloc: Global, id: u128, body: &str) -> Result<Message, Fail> {
     Ok(Message {
-        id: 1,
+        id,
         created: 0,
         sender: Text::of(alloc, "s@b.example")?,
         recipient: Text::of(alloc, "u@a.example")?,
         name: QueueName::parse(alloc, "a.example")?,
-        body: Text::of(alloc, "hi")?,
+        body: Text::of(alloc, body)?,
     })
 }
 
@@ -41,7 +42,7 @@ fn bytes_after(alloc: Global, defers: bool, settles: bool) -> Result<String, Fai
     let Ok((mut store, _)) = Store::open(alloc, MemDisk::new(alloc)) else {
         return Ok(format!(in alloc; "not opened")?);
     };
-    let message = message(alloc)?;
+    let message = message(alloc, 1, "hi")?;
     if !message.is_proper() || store.contains(message.id) || store.hold(&message).is_err() {
         return Ok(format!(in alloc; "not held")?);
     }
@@ -56,7 +57,7 @@ fn bytes_after(alloc: Global, defers: bool, settles: bool) -> Result<String, Fai
 }
 
 /// Whether room is made for a deferral, and the message deferred.
-fn is_deferred(store: &mut Store<MemDisk>, id: u128) -> bool {
+pub(crate) fn is_deferred(store: &mut Store<MemDisk>, id: u128) -> bool {
     if store.len() < 1 || store.make_room(1).is_err() || !store.contains(id) {
         return false;
     }
@@ -69,7 +70,7 @@ fn is_deferred(store: &mut Store<MemDisk>, id: u128) -> bool {
 }
 
 /// Whether the message is pending and is settled.
-fn is_settled(store: &mut Store<MemDisk>, id: u128) -> bool {
+pub(crate) fn is_settled(store: &mut Store<MemDisk>, id: u128) -> bool {
     store.contains(id) && store.settle(id).is_ok()
 }
 
@@ -133,6 +134,23 @@ fn opened(alloc: Global, first: &str, second: &str) -> Result<String, Fail> {
     }
 }
 
+/// The message's record without its gate and its kind.
+fn behind_kind() -> &'static str {
+    match HELD.get(4..) {
+        Some(rest) => rest,
+        None => "",
+    }
+}
+
+/// A text so many times over.
+fn repeated(alloc: Global, text: &str, times: usize) -> Result<String, Fail> {
+    let mut all = String::new(alloc);
+    for _ in 0..times {
+        all.push_str(text)?;
+    }
+    Ok(all)
+}
+
 /// The message's spool with another end.
 fn ending(alloc: Global, end: &str) -> Result<String, Fail> {
     Ok(format!(in alloc; "{HEADER}{HELD}{end}")?)
@@ -144,12 +162,17 @@ fn damaged_spools(rt: HostRuntime) -> Result<(), Fail> {
     let whole = ending(alloc, "00")?;
     let again = ending(alloc, HELD)?;
     let strange = ending(alloc, "0102000000100000000000000000000000000000000200")?;
+    let other_kind = format!(in alloc; "{HEADER}0109{}00", behind_kind())?;
     assert_eq!(rt;
         opened(alloc, "014b53500200000000000000000000", "")?.as_str(),
         "Damaged(0, 15)"
     );
     assert_eq!(rt;
         opened(alloc, ending(alloc, "")?.as_str(), "")?.as_str(),
+        "Damaged(0, 16)"
+    );
+    assert_eq!(rt;
+        opened(alloc, other_kind.as_str(), "")?.as_str(),
         "Damaged(0, 16)"
     );
     assert_eq!(rt;
@@ -174,17 +197,50 @@ fn damaged_spools(rt: HostRuntime) -> Result<(), Fail> {
 #[test]
 fn sound_spools(rt: HostRuntime) -> Result<(), Fail> {
     let alloc = rt.alloc();
-    let torn = ending(alloc, "0501010101010101010101")?;
+    let ones = repeated(alloc, "01", 100)?;
+    let torn = ending(alloc, format!(in alloc; "05{ones}")?.as_str())?;
+    let sevens = repeated(alloc, "07", 500)?;
+    let closed = format!(in alloc; "00{sevens}")?;
     let older = format!(in alloc; "014b5350010000000000000000000001{HELD}00")?;
     let newer = format!(in alloc; "1 pending, 91 bytes, 014b5350020000000000000000000002{HELD}00")?;
     assert_eq!(rt;
         opened(alloc, torn.as_str(), "")?.as_str(),
-        "1 pending, 101 bytes, "
+        "1 pending, 191 bytes, "
     );
     assert_eq!(rt; opened(alloc, older.as_str(), "")?.as_str(), newer.as_str());
     assert_eq!(rt;
-        opened(alloc, "00070707070707070707", "")?.as_str(),
+        opened(alloc, closed.as_str(), "")?.as_str(),
         "0 pending, 17 bytes, "
+    );
+    Ok(())
+}
+
+/// Whether a message with a body of 60,000 bytes is held.
+fn holds_long_body(alloc: Global, store: &mut Store<MemDisk>, id: u128) -> Result<bool, Fail> {
+    let body = repeated(alloc, "x", 60_000)?;
+    let message = message(alloc, id, body.as_str())?;
+    Ok(message.is_proper() && !store.contains(id) && store.hold(&message).is_ok())
+}
+
+/// Two messages of 60,000 bytes are held and settled; then the other area has the next generation and no record.
+#[test]
+fn long_area_is_written_anew(rt: HostRuntime) -> Result<(), Fail> {
+    let alloc = rt.alloc();
+    let Ok((mut store, _)) = Store::open(alloc, MemDisk::new(alloc)) else {
+        return Err(Fail::new(format_args!("not opened")));
+    };
+    assert!(rt; holds_long_body(alloc, &mut store, 1)?);
+    assert!(rt; holds_long_body(alloc, &mut store, 2)?);
+    assert!(rt; is_settled(&mut store, 1));
+    assert!(rt; is_settled(&mut store, 2));
+    assert!(rt; store.wants_compact());
+    assert!(rt; store.compact().is_ok());
+    assert!(rt; !store.wants_compact());
+    let disk = store.into_disk();
+    assert_eq!(rt; disk.bytes(0).len(), 120_205);
+    assert_eq!(rt;
+        hexadecimal(alloc, disk.bytes(1))?.as_str(),
+        "014b535002000000000000000000000200"
     );
     Ok(())
 }

@@ -1,12 +1,13 @@
 -- The members of the lines of the log.
-use Rattle.std.specs.Prelude.{ℕ, List, Option, Some, None, codes}
+use Rattle.std.specs.Prelude.{ℕ, List, codes}
 use Rattle.serde_json.specs.Data.{string, Members, member, no_members, put}
 use Rattle.queue_name.specs.QueueName.{spelling}
 use Rattle.queue_name.specs.declared.criteria.Criteria.{Criteria}
 use Rattle.queue_name.specs.declared.message.Message.{Message}
 use Rattle.smtp_reply.specs.declared.reply.Outcome.{Outcome}
 use Rattle.smtp_reply.specs.declared.reply.Outcome.TheVariants as outcome
-use Rattle.delivery_log.specs.LogText.{id_text, lost_text, whole_number}
+use Rattle.json_members.specs.Members.{id_text, whole_number, with_given}
+use Rattle.delivery_log.specs.LogText.{lost_text}
 
 -- what each line has: when, by which pass and what
 abbrev pub common_members : ℕ → ℕ → List ℕ → Members
@@ -19,11 +20,6 @@ with_decision (outcome.Delivered r) ms = put (codes "reply") (string r.text) ms
 with_decision (outcome.Transient r) ms = put (codes "reply") (string r.text) ms
 with_decision (outcome.Permanent r) ms = put (codes "reply") (string r.text) ms
 with_decision (outcome.Lost why) ms = put (codes "lost") (string (lost_text why)) ms
-
--- the members with a component, where it is given
-abbrev pub with_given : List ℕ → Option (List ℕ) → Members → Members
-with_given key None ms = ms
-with_given key (Some text) ms = put key (string text) ms
 
 -- the members with those that criteria give
 abbrev pub with_criteria : Criteria → Members → Members

@@ -18,7 +18,7 @@ refusal_of fault.Memory = refusal.Memory
 -- what a mail text comes to is refused so
 abbrev pub IsMisread : Refusal → MailRead → Type 0
 IsMisread (refusal.Mail line why) found = found ≡ mail_gives (refused line why)
-IsMisread refusal.Limit found = found ≡ too_long
+IsMisread refusal.TextLimit found = found ≡ too_long
 IsMisread refusal.Memory found = ⊤
 IsMisread _ found = ⊥
 

@@ -6,7 +6,6 @@ use Rattle.spool_log.specs.Head.{start_of}
 use Rattle.spool_log.specs.declared.head.Header.{Header}
 use Rattle.spool_log.specs.declared.head.Start.{Start}
 use Rattle.spool_log.specs.declared.head.Start.TheVariants as start
-use Rattle.spool_log.specs.declared.log.Log.{Log}
 use Rattle.spool_log.specs.declared.log.Found.{Found}
 use Rattle.spool_log.specs.declared.log.Found.TheVariants as found
 use Rattle.spool_store.specs.Reading.{Force, Nothing, InForce, Faulty}

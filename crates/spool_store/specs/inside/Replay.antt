@@ -1,6 +1,6 @@
 -- The records of the area in force, read one after the other.
 use Rattle.std.specs.Prelude.{◌≡◌, ℕ, ◌+◌, ◌≤◌, ◌<◌, ◌^◌, List, [], ◌∷◌, ◌++◌, length, take, drop, map, Bool, true, false, Option, Some, None, IfSome, ⊤}
-use Rattle.kumo_disk.specs.Disk.{Image, area_of, DiskSeen}
+use Rattle.kumo_disk.specs.Disk.{area_of, DiskSeen}
 use Rattle.spool_log.specs.Area.{LogRecord, bytes_of_all, header_of, Form, IsVersion, AreSmall}
 use Rattle.spool_log.specs.declared.head.Header.{Header}
 use Rattle.spool_log.specs.declared.log.Log.{Log}

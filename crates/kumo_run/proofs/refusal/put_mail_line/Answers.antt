@@ -1,9 +1,8 @@
-use Rattle.std.proofs.Common.{◌≡◌, ◌∙◌, ap, subst, ℕ, List, Option, ◌++◌, codes, decimal}
-use Rattle.kumo_outside.specs.Content.{told_with, TakesPrefix}
+use Rattle.std.proofs.Common.{◌≡◌, ◌∙◌, ap, ℕ, List, ◌++◌, codes, decimal}
 use Rattle.mail_input.specs.declared.MailWhy.{MailWhy}
 use Rattle.kumo_run.specs.declared.refusal.Refusal.TheVariants as refusal
 use Rattle.kumo_run.specs.RefusalLine.{refusal_line, end_of_line}
-use Rattle.kumo_run.proofs.ResultLemmas.{OnErr-always}
+use Rattle.kumo_run.proofs.ResultLemmas.{OnErr-always, told_as, prefix_as}
 use Rattle.kumo_run.proofs.refusal.put_mail_line.Goals as goal
 
 -- the three pieces make the line
@@ -12,14 +11,10 @@ line_is : (digits behind : List ℕ) (line : ℕ) (why : MailWhy) → digits ≡
 line_is digits behind line why d e =
     ap (λ (x : List ℕ). codes "error: mail line " ++ (x ++ behind)) d ∙ ap (λ (x : List ℕ). codes "error: mail line " ++ (decimal line ++ x)) e
 
-prefix_of : (old new : Option (List ℕ)) (text line : List ℕ) → text ≡ line → TakesPrefix old new text → TakesPrefix old new line
-prefix_of old new text line e h = subst (λ (bytes : List ℕ). TakesPrefix old new bytes) e h
-
 pub returns-in_err-put_three-clause-part : goal.returns-in_err-put_three-clause-part
 returns-in_err-put_three-clause-part g c =
-    OnErr-always _ (prefix_of _ _ _ _ (line_is _ _ c.args.line c.args.why c.format.ensures.text c.end_of_line.ensures) c.in_err-put_three.ensures.part)
+    OnErr-always _ (prefix_as _ _ _ _ (line_is _ _ c.args.line c.args.why c.format.ensures.text c.end_of_line.ensures) c.in_err-put_three.ensures.part)
 
 pub returns-clause-whole : goal.returns-clause-whole
 returns-clause-whole g c =
-    c.in_ok-put_three.ensures.whole
-    ∙ ap (λ (text : List ℕ). told_with (g.O.Sink.seen c.args.out.now).told text) (line_is _ _ c.args.line c.args.why c.format.ensures.text c.end_of_line.ensures)
+    told_as _ _ _ _ (line_is _ _ c.args.line c.args.why c.format.ensures.text c.end_of_line.ensures) c.in_ok-put_three.ensures.whole

@@ -1,11 +1,10 @@
-use Rattle.std.proofs.Common.{◌≡◌, subst, ap, ◌∙◌, List, ℕ, Option, ◌++◌, codes}
-use Rattle.kumo_outside.specs.Content.{told_with, TakesPrefix}
+use Rattle.std.proofs.Common.{◌≡◌, ap, ◌∙◌, List, ℕ, ◌++◌, codes}
 use Rattle.policy_fault.specs.Words.{name_of_file, name_of_why}
 use Rattle.policy_fault.specs.declared.fault.PolicyFile.{PolicyFile}
 use Rattle.policy_fault.specs.declared.fault.Why.{Why}
 use Rattle.kumo_outside.proofs.ContentLemmas.{told_with-next, TakesPrefix-more, TakesPrefix-after}
 use Rattle.kumo_run.specs.RefusalLine.{policy_start, policy_place, policy_end}
-use Rattle.kumo_run.proofs.ResultLemmas.{OnErr-always}
+use Rattle.kumo_run.proofs.ResultLemmas.{OnErr-always, told_as, prefix_as}
 use Rattle.kumo_run.proofs.refusal.put_policy_line.Goals as goal
 
 start_is : (name : List ℕ) (file : PolicyFile) → name ≡ name_of_file file → codes "error: policy " ++ (name ++ codes " ") ≡ policy_start file
@@ -16,12 +15,6 @@ place_is first last table key e h = ap (λ (x : List ℕ). x ++ (codes " " ++ la
 
 end_is : (name : List ℕ) (why : Why) → name ≡ name_of_why why → codes ": " ++ (name ++ codes "\n") ≡ policy_end why
 end_is name why e = ap (λ (n : List ℕ). codes ": " ++ (n ++ codes "\n")) e
-
-told_as : (old new : Option (List ℕ)) (text line : List ℕ) → text ≡ line → new ≡ told_with old text → new ≡ told_with old line
-told_as old new text line e h = h ∙ ap (told_with old) e
-
-prefix_as : (old new : Option (List ℕ)) (text line : List ℕ) → text ≡ line → TakesPrefix old new text → TakesPrefix old new line
-prefix_as old new text line e h = subst (λ (bytes : List ℕ). TakesPrefix old new bytes) e h
 
 pub returns-in_err-put_three-clause-part : goal.returns-in_err-put_three-clause-part
 returns-in_err-put_three-clause-part g c =

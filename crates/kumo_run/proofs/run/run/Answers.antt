@@ -13,12 +13,6 @@ returns-in-None-clause-ends g c =
     (refl, sym (ap inputs_of c.in-None.ensures.command))
     c.refused.ensures.status c.refused.ensures.history c.refused.ensures.wrote
 
-pub returns-in-Some-Spool-clause-ends : goal.returns-in-Some-Spool-clause-ends
-returns-in-Some-Spool-clause-ends g c =
-    ends_unused (command_of c.args.words.now) _ _ _ _ _ refusal.NotYetWords c.requires
-    (refl, sym (ap inputs_of c.in-Some-Spool.ensures.command) ∙ ap (λ (w : Words). inputs_of (Some (read_as w))) c.in-Some-Spool.field-0-is)
-    c.refused-in-Some-Spool.ensures.status c.refused-in-Some-Spool.ensures.history c.refused-in-Some-Spool.ensures.wrote
-
 pub returns-in-Some-Crew-clause-ends : goal.returns-in-Some-Crew-clause-ends
 returns-in-Some-Crew-clause-ends g c =
     ends_unused (command_of c.args.words.now) _ _ _ _ _ refusal.NotYetWords c.requires

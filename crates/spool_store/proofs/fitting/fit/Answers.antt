@@ -1,5 +1,3 @@
-use Rattle.std.proofs.Common.{◌≡◌, List}
-use Rattle.spool_format.specs.declared.kept.Kept.{Kept}
 use Rattle.spool_store.proofs.Keeping.{since_kept}
 use Rattle.spool_store.proofs.fitting.fit.Goals as goal
 

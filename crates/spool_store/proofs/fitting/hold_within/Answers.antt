@@ -1,4 +1,4 @@
-use Rattle.std.proofs.Common.{◌≡◌, ◌⊎◌, inl, ◌∙◌, ◌++◌, ◌∷◌, [], List}
+use Rattle.std.proofs.Common.{inl, ◌∙◌, ◌++◌, ◌∷◌, [], List}
 use Rattle.spool_format.specs.declared.kept.Kept.{Kept}
 use Rattle.spool_store.specs.Content.{fresh}
 use Rattle.spool_store.specs.Reading.{Recovers}

@@ -1,4 +1,4 @@
-use Rattle.std.proofs.Common.{◌≡◌, ◌∙◌, refl, sym, subst, IfSome, List}
+use Rattle.std.proofs.Common.{refl, sym, subst, IfSome, List}
 use Rattle.kumo_disk.specs.Disk.{area_of}
 use Rattle.spool_index.specs.declared.place.Place.{Place}
 use Rattle.spool_store.specs.inside.Replay.{AllStandThere}

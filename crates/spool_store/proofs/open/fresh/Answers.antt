@@ -1,4 +1,3 @@
-use Rattle.std.proofs.Common.{◌≡◌, refl, sym, ◌∙◌}
 use Rattle.spool_store.proofs.StillLemmas.{durable_on_disk}
 use Rattle.spool_store.proofs.OpenLemmas.{fresh_answer, fresh_since, fresh_content, fresh_stands}
 use Rattle.spool_store.proofs.open.fresh.Goals as goal

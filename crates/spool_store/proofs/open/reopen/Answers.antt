@@ -1,4 +1,4 @@
-use Rattle.std.proofs.Common.{◌≡◌, refl, sym, ◌∙◌, subst, ap}
+use Rattle.std.proofs.Common.{sym, ◌∙◌, subst, ap}
 use Rattle.spool_store.specs.Reading.{Nothing, InForce, Faulty, Recovers}
 use Rattle.spool_store.specs.Crash.{StandsForRead}
 use Rattle.spool_store.specs.Store.{IsOpenFault}

@@ -1,4 +1,3 @@
-use Rattle.std.proofs.Common.{◌≡◌, refl, sym, ◌∙◌}
 use Rattle.spool_store.proofs.StillLemmas.{still_then}
 use Rattle.spool_store.proofs.OpenLemmas.{breaks_open, undamaged_open, resume_places, resume_answer, resume_stands}
 use Rattle.spool_store.proofs.open.resume.Goals as goal

@@ -1,4 +1,4 @@
-use Rattle.kumo_disk.proofs.Runs.{ran_same, durable_stays}
+use Rattle.kumo_disk.proofs.Runs.{ran_same}
 use Rattle.spool_store.proofs.StillLemmas.{synced_both}
 use Rattle.spool_store.proofs.open.sync_both.Goals as goal
 

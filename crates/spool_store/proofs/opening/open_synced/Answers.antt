@@ -1,4 +1,4 @@
-use Rattle.std.proofs.Common.{◌≡◌, ◌<◌, arith}
+use Rattle.std.proofs.Common.{arith}
 use Rattle.spool_store.proofs.Keeping.{stands_then}
 use Rattle.spool_store.proofs.Wholes.{anew_whole, too_large}
 use Rattle.spool_store.proofs.opening.open_synced.Goals as goal

@@ -1,7 +1,6 @@
-use Rattle.std.proofs.Common.{◌≡◌, ◌<◌, ◌^◌, ◌∙◌, ℕ, List, arith, ap, sym, subst, length}
+use Rattle.std.proofs.Common.{◌∙◌, List, arith, ap, sym, subst, length}
 use Rattle.spool_index.specs.declared.place.Place.{Place}
 use Rattle.spool_store.specs.Standing.{Stands}
-use Rattle.spool_format.specs.Held.{held_payload}
 use Rattle.spool_store.proofs.Lists.{held_small}
 use Rattle.spool_store.proofs.Adding.{held_since, held_stands, held_content}
 use Rattle.spool_store.proofs.records.add_held.Goals as goal

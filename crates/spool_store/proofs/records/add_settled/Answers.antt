@@ -1,4 +1,4 @@
-use Rattle.std.proofs.Common.{◌≡◌, ◌<◌, ◌^◌, ◌∙◌, ℕ, List, arith, ap, sym, subst, length}
+use Rattle.std.proofs.Common.{◌∙◌, ℕ, List, arith, ap, sym, subst}
 use Rattle.spool_format.specs.Settled.{settled_in}
 use Rattle.spool_index.specs.declared.place.Place.{Place}
 use Rattle.spool_store.specs.Standing.{Stands}

@@ -1,4 +1,4 @@
-use Rattle.std.proofs.Common.{◌≡◌, ◌<◌, ◌+◌, ◌-◌, ◌^◌, ℕ, IfSome, arith, refl, sym, ◌∙◌, subst, ap}
+use Rattle.std.proofs.Common.{◌≡◌, ◌<◌, ◌+◌, ◌^◌, ℕ, IfSome, arith, sym, ◌∙◌, subst, ap}
 use Rattle.kumo_disk.specs.Disk.{area_of}
 use Rattle.spool_log.specs.declared.log.Log.{Log}
 use Rattle.spool_store.specs.inside.Replay.{Seen, IsReplayed, BreaksAt}

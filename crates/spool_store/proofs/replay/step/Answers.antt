@@ -1,5 +1,4 @@
-use Rattle.std.proofs.Common.{◌≡◌, sym, ◌∙◌, subst, true, false, Bool}
-use Rattle.spool_log.specs.Area.{LogRecord}
+use Rattle.std.proofs.Common.{subst, Bool}
 use Rattle.spool_store.specs.Content.{after}
 use Rattle.spool_store.specs.inside.Replay.{Takes}
 use Rattle.spool_store.proofs.StillLemmas.{still_ran}

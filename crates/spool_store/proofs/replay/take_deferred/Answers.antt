@@ -1,4 +1,4 @@
-use Rattle.std.proofs.Common.{◌≡◌, sym, ◌∙◌, ap, not, Bool}
+use Rattle.std.proofs.Common.{sym, ◌∙◌, ap, not, Bool}
 use Rattle.spool_store.proofs.ContentLemmas.{takes_deferred}
 use Rattle.spool_store.proofs.replay.take_deferred.Goals as goal
 

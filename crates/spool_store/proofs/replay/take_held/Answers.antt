@@ -1,6 +1,7 @@
-use Rattle.std.proofs.Common.{◌≡◌, ◌<◌, arith, sym, ◌∙◌, refl, length}
+use Rattle.std.proofs.Common.{arith, sym, ◌∙◌, refl}
 use Rattle.spool_format.proofs.ReadLemmas.{held_long}
-use Rattle.spool_store.proofs.ContentLemmas.{takes_held, held_small}
+use Rattle.spool_store.proofs.ContentLemmas.{takes_held}
+use Rattle.spool_store.proofs.Lists.{held_small}
 use Rattle.spool_store.proofs.replay.take_held.Goals as goal
 
 pub overflow_cast-payload : goal.overflow_cast-payload

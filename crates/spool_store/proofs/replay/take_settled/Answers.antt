@@ -1,4 +1,4 @@
-use Rattle.std.proofs.Common.{◌≡◌, sym, ◌∙◌, ap, not, Bool}
+use Rattle.std.proofs.Common.{sym, ◌∙◌, ap, not, Bool}
 use Rattle.spool_store.proofs.ContentLemmas.{takes_settled}
 use Rattle.spool_store.proofs.replay.take_settled.Goals as goal
 

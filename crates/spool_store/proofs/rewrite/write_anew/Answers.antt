@@ -7,7 +7,7 @@ use Rattle.spool_log.specs.declared.draft.Draft.{Draft}
 use Rattle.spool_log.specs.declared.log.Log.{Log}
 use Rattle.spool_index.specs.Places.{laid_out}
 use Rattle.spool_store.specs.Standing.{Stands}
-use Rattle.spool_store.proofs.Turning.{other_below, other_apart, other_durable, opened_ran, pieces_within, since_clears, since_turns, stands_turned}
+use Rattle.spool_store.proofs.Turning.{other_below, other_apart, other_durable, opened_ran, pieces_within, since_clears, since_anew, stands_turned}
 use Rattle.spool_store.proofs.rewrite.write_anew.Goals as goal
 
 pub draft_anew-requires-clause-durable : goal.draft_anew-requires-clause-durable
@@ -29,30 +29,12 @@ returns-in_err-draft-clause-since g c =
     since_clears log c.args.pending.now (g.D.Disk.seen c.args.disk.now) c.requires.stands (1 - log.area) (other_below log.area lt) (other_apart log.area lt) (g.D.Disk.seen c.draft_anew.new.disk) c.draft_anew.ensures.ran
 
 pub returns-in_err-log-clause-since : goal.returns-in_err-log-clause-since
-returns-in_err-log-clause-since g c =
-    let log : Log = c.args.log.now in
-    let lt : log.area < 2 = c.requires.stands.ready.area in
-    let draft : Draft = c.in_ok-draft.draft in
-    let made = c.in_ok-draft.ensures.made in
-    let a = g.D.Disk.seen c.args.disk.now in
-    let d = g.D.Disk.seen c.draft_anew.new.disk in
-    let e = g.D.Disk.seen c.open.new.disk in
-    since_turns log c.args.pending.now a c.requires.stands (1 - log.area) (other_below log.area lt) (other_apart log.area lt) draft d e
-    (ap (λ (d : Draft). d.header.version) made) (ap (λ (d : Draft). d.header.generation) made) c.in_ok-draft.ensures.has c.in_ok-draft.ensures.draft
-    (opened_ran (1 - log.area) draft a d e (ap (λ (d : Draft). d.area) made) c.draft_anew.ensures.ran c.open.ensures.ran)
+returns-in_err-log-clause-since g c = since_anew c.args.log.now c.args.pending.now (g.D.Disk.seen c.args.disk.now) (g.D.Disk.seen c.draft_anew.new.disk) (g.D.Disk.seen c.open.new.disk) c.in_ok-draft.draft _
+    c.requires.stands c.in_ok-draft.ensures.made c.in_ok-draft.ensures.has c.in_ok-draft.ensures.draft c.draft_anew.ensures.ran c.open.ensures.ran
 
 pub returns-clause-since : goal.returns-clause-since
-returns-clause-since g c =
-    let log : Log = c.args.log.now in
-    let lt : log.area < 2 = c.requires.stands.ready.area in
-    let draft : Draft = c.in_ok-draft.draft in
-    let made = c.in_ok-draft.ensures.made in
-    let a = g.D.Disk.seen c.args.disk.now in
-    let d = g.D.Disk.seen c.draft_anew.new.disk in
-    let e = g.D.Disk.seen c.open.new.disk in
-    since_turns log c.args.pending.now a c.requires.stands (1 - log.area) (other_below log.area lt) (other_apart log.area lt) draft d e
-    (ap (λ (d : Draft). d.header.version) made) (ap (λ (d : Draft). d.header.generation) made) c.in_ok-draft.ensures.has c.in_ok-draft.ensures.draft
-    (opened_ran (1 - log.area) draft a d e (ap (λ (d : Draft). d.area) made) c.draft_anew.ensures.ran c.open.ensures.ran)
+returns-clause-since g c = since_anew c.args.log.now c.args.pending.now (g.D.Disk.seen c.args.disk.now) (g.D.Disk.seen c.draft_anew.new.disk) (g.D.Disk.seen c.open.new.disk) c.in_ok-draft.draft _
+    c.requires.stands c.in_ok-draft.ensures.made c.in_ok-draft.ensures.has c.in_ok-draft.ensures.draft c.draft_anew.ensures.ran c.open.ensures.ran
 
 pub returns-clause-stands : goal.returns-clause-stands
 returns-clause-stands g c =

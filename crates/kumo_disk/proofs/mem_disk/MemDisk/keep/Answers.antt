@@ -9,7 +9,7 @@ returns-clause-keeps c =
     let empty : c.new-replaced.result.items ≡ [] = c.new-replaced.ensures.items in
     let read : List ℕ = area_of c.args.area (reads c.args.self.now) in
     record {
-      call = record { area = c.args.area; effect = c.args.effect; at = c.args.at; placed = 0; replaced = c.new-replaced.result };
+      call = record { area = c.args.area; effect = c.args.effect; at = c.args.at; placed = 0; replaced = c.new-replaced.result; unwritten = c.in_ok-unwritten.unwritten };
       kept = c.in_ok-push.ensures.items;
       goes_back = with_same c.args.area _ (reads c.args.self.now) (ap (λ (l : List ℕ). take c.args.at read ++ l ++ drop (c.args.at + 0) read) empty ∙ back_same c.args.at read);
       of_area = refl;

@@ -9,7 +9,7 @@ use Rattle.kumo_disk.proofs.mem_disk.MemDisk.shorten.Goals as goal
 pub returns-clause-keeps : goal.returns-clause-keeps
 returns-clause-keeps c =
     let read : List ℕ = area_of c.args.area (reads c.args.self.now) in
-    let call : KeptCall = record { area = c.args.area; effect = Shorten; at = c.args.end; placed = 0; replaced = c.in_ok-replaced.replaced } in
+    let call : KeptCall = record { area = c.args.area; effect = Shorten; at = c.args.end; placed = 0; replaced = c.in_ok-replaced.replaced; unwritten = c.new-unwritten.result } in
     record {
       call = call;
       kept = c.truncate.ensures.calls ∙ c.in_ok-push.ensures.items;

@@ -9,7 +9,7 @@ use Rattle.kumo_disk.proofs.mem_disk.MemDisk.write.Goals as goal
 pub returns-clause-keeps : goal.returns-clause-keeps
 returns-clause-keeps c =
     let read : List ℕ = area_of c.args.area (reads c.args.self.now) in
-    let call : KeptCall = record { area = c.args.area; effect = Write (length c.args.bytes.now); at = c.args.at; placed = length c.args.bytes.now; replaced = c.in_ok-replaced.replaced } in
+    let call : KeptCall = record { area = c.args.area; effect = Write (length c.args.bytes.now); at = c.args.at; placed = length c.args.bytes.now; replaced = c.in_ok-replaced.replaced; unwritten = c.new-unwritten.result } in
     let piece : c.in_ok-replaced.replaced.items ≡ take (length c.args.bytes.now) (drop c.args.at read) =
     c.in_ok-replaced.ensures ∙ ap (λ (l : List ℕ). take (length c.args.bytes.now) (drop c.args.at l)) c.bytes.ensures in
     record {

@@ -1,4 +1,4 @@
-use Rattle.std.proofs.Common.{◌≡◌, ◌∙◌, ap, sym, true, false}
+use Rattle.std.proofs.Common.{◌∙◌, ap, sym}
 use Rattle.spool_index.specs.Places.{has}
 use Rattle.spool_store.specs.Store.{StoreSeen}
 use Rattle.spool_store.proofs.Waiting.{has-unplaced}

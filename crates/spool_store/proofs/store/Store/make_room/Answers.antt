@@ -1,12 +1,7 @@
-use Rattle.std.proofs.Common.{◌≡◌, ◌∙◌, ◌⊎◌, inl, inr, ⊎_elim, ℕ, ◌+◌, ◌*◌, List, map, min, arith, ap, sym, refl, subst, length, true, false}
+use Rattle.std.proofs.Common.{inl, inr, ⊎_elim, arith, ap, length}
 use Rattle.std.proofs.lemmas.List.{length-map}
-use Rattle.spool_index.specs.declared.place.Place.{Place}
-use Rattle.spool_index.specs.Places.{has, without, with_delay}
 use Rattle.spool_store.specs.Store.{StoreSeen, unplaced}
-use Rattle.spool_store.specs.Standing.{Stands}
-use Rattle.spool_store.proofs.Waiting.{has-unplaced, without-unplaced, delay-unplaced}
-use Rattle.spool_store.proofs.Wholes.{settled_whole, deferred_whole, kept_whole, at_memory}
-use Rattle.spool_store.specs.Whole.{IsWhole}
+use Rattle.spool_store.proofs.Wholes.{kept_whole, room_left, live_within}
 use Rattle.spool_store.proofs.store.Store.make_room.Goals as goal
 
 pub invariant_of-self : goal.invariant_of-self
@@ -15,3 +10,9 @@ invariant_of-self g c = λ up.
     (c.self.invariant up) c.in-Ok.ensures.stands c.in-Ok.ensures.version c.in-Ok.ensures.pending
     (omega (arith, c.requires, length-map c.self.inside.pending unplaced, ap (λ (s : StoreSeen _). length s.pending) c.self.view_is))
     (⊎_elim (λ fit. inl (omega (arith, fit, c.len.ensures.len))) (λ anew. inr anew) c.in-Ok.ensures.fits)
+
+pub returns-in-Ok-clause-has_room : goal.returns-in-Ok-clause-has_room
+returns-in-Ok-clause-has_room g c = λ up. room_left c.fit.new.log c.fit.new.pending c.args.deferrals (g.D.Disk.seen c.fit.new.disk) (invariant_of-self g c up)
+
+pub returns-in-Ok-clause-within : goal.returns-in-Ok-clause-within
+returns-in-Ok-clause-within g c = λ up. live_within c.fit.new.log c.fit.new.pending c.args.deferrals (g.D.Disk.seen c.fit.new.disk) (invariant_of-self g c up)

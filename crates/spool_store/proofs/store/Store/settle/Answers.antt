@@ -1,11 +1,11 @@
-use Rattle.std.proofs.Common.{◌≡◌, ◌∙◌, ◌⊎◌, inl, inr, ⊎_elim, ℕ, ◌+◌, ◌*◌, List, map, min, arith, ap, sym, refl, subst, length, true, false}
+use Rattle.std.proofs.Common.{◌∙◌, List, map, arith, ap, sym, subst, length}
 use Rattle.std.proofs.lemmas.List.{length-map}
 use Rattle.spool_index.specs.declared.place.Place.{Place}
-use Rattle.spool_index.specs.Places.{has, without, with_delay}
+use Rattle.spool_index.specs.Places.{has, without}
 use Rattle.spool_store.specs.Store.{StoreSeen, unplaced}
 use Rattle.spool_store.specs.Standing.{Stands}
-use Rattle.spool_store.proofs.Waiting.{has-unplaced, without-unplaced, delay-unplaced}
-use Rattle.spool_store.proofs.Wholes.{settled_whole, deferred_whole, kept_whole, at_memory}
+use Rattle.spool_store.proofs.Waiting.{has-unplaced, without-unplaced}
+use Rattle.spool_store.proofs.Wholes.{settled_whole, room_left, live_within}
 use Rattle.spool_store.specs.Whole.{IsWhole}
 use Rattle.spool_store.proofs.store.Store.settle.Goals as goal
 
@@ -27,3 +27,9 @@ returns-in-Ok-clause-ok g c = (
   sym (ap (λ (s : StoreSeen _). s.down) c.self.view_is) ∙ c.if-self.false,
   c.if-self.false,
 )
+
+pub returns-in-Ok-clause-has_room : goal.returns-in-Ok-clause-has_room
+returns-in-Ok-clause-has_room g c = λ up. room_left c.add_settled.new.log c.add_settled.new.pending c.min-self-inside.result (g.D.Disk.seen c.add_settled.new.disk) (invariant_of-self g c up)
+
+pub returns-in-Ok-clause-within : goal.returns-in-Ok-clause-within
+returns-in-Ok-clause-within g c = λ up. live_within c.add_settled.new.log c.add_settled.new.pending c.min-self-inside.result (g.D.Disk.seen c.add_settled.new.disk) (invariant_of-self g c up)

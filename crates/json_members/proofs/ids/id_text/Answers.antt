@@ -2,8 +2,8 @@
 use Rattle.std.proofs.Common.{◌∙◌, ap}
 use Rattle.std.proofs.lemmas.Result.{IfOk-weaker}
 use Rattle.uuid.specs.Text.{hyphenated_text, lower}
-use Rattle.delivery_log.specs.LogText.{id_text}
-use Rattle.delivery_log.proofs.entry_value.id_text.Goals as goal
+use Rattle.json_members.specs.Members.{id_text}
+use Rattle.json_members.proofs.ids.id_text.Goals as goal
 
 pub returns : goal.returns
 unfolding id_text
