@@ -1,4 +1,3 @@
 pub mod PlaceLemmas
 pub mod KeptLemmas
 pub mod IndexLemmas
-pub mod IdLemmas

@@ -1,8 +1,8 @@
 -- Slots in the order of holding, and an index that says in which slot each id stands.
-use Rattle.std.specs.Prelude.{◌≡◌, ◌<◌, ◌≤◌, ◌+◌, ℕ, true, List, [], ◌∷◌, Option, Some, None, length, drop, nat_eq, slice_index_or, is_some, ◌==◌, if◌then◌else◌}
+use Rattle.std.specs.Prelude.{◌≡◌, ◌<◌, ◌+◌, ℕ, true, List, [], ◌∷◌, Option, Some, None, length, nat_eq, slice_index_or, is_some}
 use Rattle.indexmap.specs.IndexMap.{IndexMap, get, index_map_len}
 use Rattle.spool_index.specs.declared.place.Place.{Place}
-use Rattle.spool_index.specs.Places.{ids_of, has, are_distinct, live_size, compacted_size, after_place}
+use Rattle.spool_index.specs.Places.{has, are_distinct, live_size, compacted_size, after_place}
 
 -- the messages in the slots that are not blank
 abbrev pub kept : List (Option Place) → List Place
@@ -32,15 +32,8 @@ pub record IsIndex {S : Type 0} (index : IndexMap ℕ ℕ S) (slots : List (Opti
   pub count : index_map_len index ≡ length (kept slots)
   pub distinct : are_distinct (kept slots) ≡ true
 
--- the index, the two sizes and the ids, which stand in a block behind its free places, are right about the slots
-pub record IsKept {S : Type 0} (index : IndexMap ℕ ℕ S) (slots : List (Option Place)) (bytes fewest : ℕ) (block : List ℕ) (free : ℕ) : Type 0 where
+-- the index and the two sizes are right about the slots
+pub record IsKept {S : Type 0} (index : IndexMap ℕ ℕ S) (slots : List (Option Place)) (bytes fewest : ℕ) : Type 0 where
   pub right : IsIndex index slots
   pub live : bytes ≡ live_size (kept slots)
   pub compacted : fewest ≡ compacted_size (kept slots)
-  pub within : free ≤ length block
-  pub ids : drop free block ≡ ids_of (kept slots)
-
--- without the first place of an id
-abbrev pub without_id : ℕ → List ℕ → List ℕ
-without_id id [] = []
-without_id id (x ∷ xs) = if x == id then xs else x ∷ without_id id xs

@@ -2,11 +2,9 @@
 //!
 //! The store of a spool keeps a `Pending` beside its file: it holds a message by `push`, settles it by `settle`, moves it to
 //! a later time by `delay`, finds it by its id, and walks over all of them when it writes its file anew. Each call takes
-//! constant time, counted over all calls, and a step of a walk too; only `settle` looks through the ids before the one that it
-//! takes out, so that all ids stand side by side.
+//! constant time, counted over all calls; a step of a walk too.
 #![tactic(auto)]
 
-mod ids;
 mod pending;
 mod place;
 mod slots;

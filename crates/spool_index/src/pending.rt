@@ -1,8 +1,7 @@
 //! The pending messages of a spool.
 ghost use Rattle.std.specs.Prelude.{◌≡◌, ◌∷◌, ◌++◌, [], true, false, length, is_some, IfSome, OnOk, OnErr};
-ghost use Rattle.spool_index.specs.Places.{ids_of, has, find, without, with_delay, are_distinct, live_size, compacted_size, laid_out};
+ghost use Rattle.spool_index.specs.Places.{has, find, without, with_delay, are_distinct, live_size, compacted_size, laid_out};
 
-use crate::ids::take_out;
 use crate::place::{Place, compacted_cost, live_cost};
 use crate::slots::{held, lay_out, vacate};
 use crate::walk::Walk;
@@ -18,9 +17,6 @@ pub struct Pending {
     index: IndexMap<u128, usize>,
     live_size: u64,
     compacted_size: u64,
-    // The ids, behind so many free places.
-    ids: Vec<u128>,
-    free: usize,
 }
 
 impl Model for Pending {
@@ -32,7 +28,7 @@ impl Model for Pending {
 
     ghost view = { λ s. kept s.slots.items };
 
-    ghost invariant = { λ s. IsKept s.index s.slots.items s.live_size s.compacted_size s.ids.items s.free };
+    ghost invariant = { λ s. IsKept s.index s.slots.items s.live_size s.compacted_size };
 }
 
 impl Pending {
@@ -45,8 +41,6 @@ impl Pending {
             index: IndexMap::new(alloc),
             live_size: 17,
             compacted_size: 17,
-            ids: Vec::new(alloc),
-            free: 0,
         }
     }
 
@@ -59,10 +53,8 @@ impl Pending {
     {
         let live_size = self.live_size.checked_add(live_cost(place)).ok_or(Memory)?;
         self.slots.reserve(1)?;
-        self.ids.reserve(1)?;
         self.index.insert(place.id, self.slots.len())?;
         self.slots.push_reserved(Some(place));
-        self.ids.push_reserved(place.id);
         self.live_size = live_size;
         self.compacted_size += compacted_cost(place);
         Ok(())
@@ -86,7 +78,6 @@ impl Pending {
     {
         if let Some((slot, place)) = held(&self.slots, &self.index, id) {
             vacate(&mut self.slots, &mut self.index, slot, place);
-            take_out(&mut self.ids, &mut self.free, id);
             self.live_size -= live_cost(place);
             self.compacted_size -= compacted_cost(place);
         }
@@ -138,13 +129,6 @@ impl Pending {
         ensures { result ≡ compacted_size self.now }
     {
         self.compacted_size
-    }
-
-    /// The ids of all messages, in the order of holding.
-    pub fn ids(&self) -> &[u128]
-        ensures { result.now ≡ ids_of self.now }
-    {
-        &self.ids[self.free..]
     }
 
     /// A walk over all messages, in the order of holding.

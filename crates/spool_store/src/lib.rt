@@ -34,6 +34,7 @@ pub mod laws;
 mod limits;
 mod open;
 mod opening;
+mod pending_ids;
 mod records;
 mod replay;
 mod rewrite;
@@ -41,4 +42,5 @@ mod store;
 
 pub use faults::{CompactFault, HoldFault, OpenFault, SettleFault};
 pub use limits::AREA_LIMIT;
+pub use pending_ids::PendingIds;
 pub use store::Store;

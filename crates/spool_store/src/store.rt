@@ -16,6 +16,7 @@ use crate::fitting::{fit, hold_within};
 use crate::limits::AREA_LIMIT;
 use crate::open::{Opened, sync_both};
 use crate::opening::open_synced;
+use crate::pending_ids::PendingIds;
 use crate::records::{add_deferred, add_settled};
 use crate::rewrite::rewrite;
 use kumo_disk::Disk;
@@ -100,10 +101,12 @@ impl<D: Disk + Drop> Store<D> {
     }
 
     /// The ids of all pending messages, in the order of holding.
-    pub fn pending(&self) -> &[u128]
-        ensures { result.now ≡ ids_of self.now.pending }
+    pub fn pending(&self) -> PendingIds<'_>
+        ensures { result ≡ ids_of self.now.pending }
     {
-        self.pending.ids()
+        PendingIds {
+            walk: self.pending.walk(),
+        }
     }
 
     /// Whether a message is pending.

@@ -1,8 +1,7 @@
 use Rattle.std.proofs.Common.{◌≡◌, Some, None, get_or, set, is_some, refl, sym, ap, ◌∙◌, arith}
 use Rattle.std.proofs.lemmas.Bool.{true≢false}
-use Rattle.spool_index.specs.Places.{ids_of, has, find, with_delay, delayed, live_size, compacted_size, live_cost, compacted_cost}
+use Rattle.spool_index.specs.Places.{has, find, with_delay, delayed, live_size, compacted_size, live_cost, compacted_cost}
 use Rattle.spool_index.specs.Slots.{kept}
-use Rattle.spool_index.proofs.IdLemmas.{ids_delay}
 use Rattle.spool_index.proofs.PlaceLemmas.{has-find, sum_without, sum_delay, compacted_within}
 use Rattle.spool_index.proofs.IndexLemmas.{rewritten, delay_held}
 use Rattle.spool_index.proofs.pending.Pending.delay.Goals as goal
@@ -43,8 +42,6 @@ invariant_of-self c =
       live = omega (arith, live, c.self.invariant.live, ap live_size later);
       compacted =
           omega (arith, first, compacted, c.self.invariant.compacted, c.compacted_cost.ensures, c.compacted_cost-in-Some.ensures, ap compacted_size later);
-      within = c.self.invariant.within;
-      ids = c.self.invariant.ids ∙ sym (ids_delay a.id a.failures a.due (kept slots)) ∙ ap ids_of (sym later);
     }
 
 pub returns-in-Some : goal.returns-in-Some

@@ -1,12 +1,10 @@
-use Rattle.std.proofs.Common.{List, drop, ◌≡◌, ◌<◌, ◌∷◌, ◌++◌, [], ◌+◌, ◌^◌, ℕ, false, Option, Some, None, SomeIff, cond, is_some, nat_eq, length, sym, ap, ◌∙◌, subst, arith}
+use Rattle.std.proofs.Common.{◌≡◌, ◌<◌, ◌∷◌, ◌++◌, [], ◌+◌, ◌^◌, ℕ, false, Option, Some, None, SomeIff, cond, is_some, nat_eq, length, sym, ap, ◌∙◌, subst, arith}
 use Rattle.std.proofs.lemmas.List.Sums.{sum_by_push}
 use Rattle.indexmap.specs.IndexMap.{get, index_map_len}
-use Rattle.spool_index.specs.Places.{ids_of, has, live_size, compacted_size, live_cost, compacted_cost}
+use Rattle.spool_index.specs.Places.{has, live_size, compacted_size, live_cost, compacted_cost}
 use Rattle.spool_index.specs.Slots.{kept, IsIndex}
 use Rattle.spool_index.proofs.PlaceLemmas.{compacted_within}
-use Rattle.std.proofs.lemmas.List.{length-append}
 use Rattle.spool_index.proofs.KeptLemmas.{kept-append}
-use Rattle.spool_index.proofs.IdLemmas.{block_push}
 use Rattle.spool_index.proofs.IndexLemmas.{pushed}
 use Rattle.spool_index.proofs.pending.Pending.push.Goals as goal
 
@@ -44,15 +42,11 @@ invariant_of-self-2 c =
     let right = pushed m n slots p c.self.invariant.right none updates len in
     let all : kept c.push_reserved.new.self.items ≡ kept slots ++ p ∷ [] = ap kept items ∙ kept-append slots (Some p ∷ []) in
     let sum = sum_at c.checked_add.result c.self.inside.live_size c.live_cost.result c.in_ok-live_size.live_size c.checked_add.ensures c.in_ok-live_size.ensures.ok_part in
-    let block : c.push_reserved-2.new.self.items ≡ c.self.inside.ids.items ++ p.id ∷ [] =
-    c.push_reserved-2.ensures.items ∙ ap (λ (l : List ℕ). l ++ p.id ∷ []) c.reserve-2.ensures.items in
     record {
       right = subst (λ s. IsIndex n s) (sym items) right;
       live = omega (arith, sum.1, sum_by_push live_cost (kept slots) p, c.self.invariant.live, c.live_cost.ensures, ap live_size all);
       compacted =
           omega (arith, sum_by_push compacted_cost (kept slots) p, c.self.invariant.compacted, c.compacted_cost.ensures, ap compacted_size all);
-      within = omega (arith, ap length block, length-append c.self.inside.ids.items (p.id ∷ []), c.self.invariant.within);
-      ids = ap (λ (l : List ℕ). drop c.self.inside.free l) block ∙ block_push c.self.inside.ids.items c.self.inside.free (kept slots) p c.self.invariant.within c.self.invariant.ids ∙ ap ids_of (sym all);
     }
 
 pub returns-clause-ok : goal.returns-clause-ok

@@ -1,9 +1,8 @@
 use Rattle.std.proofs.Common.{◌≡◌, length, sym, ap, ◌∙◌, subst}
 use Rattle.std.specs.Vec.{with_items}
 use Rattle.std.proofs.lemmas.List.{with_items_is}
-use Rattle.spool_index.specs.Places.{ids_of, live_size, compacted_size, laid_out}
+use Rattle.spool_index.specs.Places.{live_size, compacted_size, laid_out}
 use Rattle.spool_index.specs.Slots.{kept, slots_laid_out, IsIndex}
-use Rattle.spool_index.proofs.IdLemmas.{ids_laid_out}
 use Rattle.spool_index.proofs.PlaceLemmas.{live_size_laid_out, compacted_size_laid_out}
 use Rattle.spool_index.proofs.KeptLemmas.{kept_laid_out, length_slots_laid_out}
 use Rattle.spool_index.proofs.IndexLemmas.{relocated}
@@ -21,8 +20,6 @@ invariant_of-self c =
       live = c.self.invariant.live ∙ sym (live_size_laid_out 16 (kept slots.items)) ∙ ap live_size (sym all);
       compacted =
           c.self.invariant.compacted ∙ sym (compacted_size_laid_out 16 (kept slots.items)) ∙ ap compacted_size (sym all);
-      within = c.self.invariant.within;
-      ids = c.self.invariant.ids ∙ sym (ids_laid_out 16 (kept slots.items)) ∙ ap ids_of (sym all);
     }
 
 pub returns : goal.returns

@@ -1,8 +1,7 @@
-use Rattle.std.proofs.Common.{◌≡◌, ℕ, List, is_some, sym, ap, ◌∙◌, arith}
+use Rattle.std.proofs.Common.{◌≡◌, is_some, sym, ap, ◌∙◌, arith}
 use Rattle.std.proofs.lemmas.Bool.{true≢false}
-use Rattle.spool_index.specs.Places.{ids_of, has, find, without, live_size, compacted_size, live_cost, compacted_cost}
-use Rattle.spool_index.specs.Slots.{kept, without_id}
-use Rattle.spool_index.proofs.IdLemmas.{ids_without}
+use Rattle.spool_index.specs.Places.{has, find, without, live_size, compacted_size, live_cost, compacted_cost}
+use Rattle.spool_index.specs.Slots.{kept}
 use Rattle.spool_index.proofs.PlaceLemmas.{has-find, sum_without}
 use Rattle.spool_index.proofs.pending.Pending.settle.Goals as goal
 
@@ -30,8 +29,6 @@ invariant_of-self c =
       live = omega (arith, sum_without live_cost c.args.id (kept slots) p found, c.self.invariant.live, c.live_cost.ensures, ap live_size left);
       compacted =
           omega (arith, sum_without compacted_cost c.args.id (kept slots) p found, c.self.invariant.compacted, c.compacted_cost.ensures, ap compacted_size left);
-      within = c.take_out.ensures.within;
-      ids = c.take_out.ensures.left ∙ ap (λ (l : List ℕ). without_id c.args.id l) c.self.invariant.ids ∙ sym (ids_without c.args.id (kept slots)) ∙ ap ids_of (sym left);
     }
 
 pub returns-in_default : goal.returns-in_default
