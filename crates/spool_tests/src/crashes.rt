@@ -1,7 +1,8 @@
 //! A spool over a disk of which a call fails: whatever a crash may then leave has the messages pending from before the call that
 //! was in hand, or those from after it.
-use crate::spool::{is_deferred, is_settled, message};
+use crate::spool::{is_deferred, is_held, is_settled, message};
 use kumo_disk::{DiskCall, MemDisk};
+use spool_format::Kept;
 use spool_store::Store;
 use std::alloc::Global;
 use std::test::Fail;
@@ -35,7 +36,7 @@ fn is_done(alloc: Global, store: &mut Store<MemDisk>, step: Step) -> Result<bool
     match step {
         Step::Hold(id) => {
             let message = message(alloc, id, "hi")?;
-            Ok(message.is_proper() && !store.contains(id) && store.hold(&message).is_ok())
+            Ok(is_held(store, &message))
         }
         Step::Defer(id) => Ok(is_deferred(store, id)),
         Step::Settle(id) => Ok(is_settled(store, id)),
@@ -45,14 +46,17 @@ fn is_done(alloc: Global, store: &mut Store<MemDisk>, step: Step) -> Result<bool
 
 /// What is pending in the spool of a disk.
 fn pending_in(alloc: Global, disk: MemDisk) -> Result<String, Fail> {
-    let mut text = String::new(alloc);
     match Store::open(alloc, disk) {
-        Ok((_, kept)) => {
-            for one in kept.as_slice() {
-                write!(text, "{}:{}:{} ", one.message.id, one.failures, one.due)?;
-            }
-        }
-        Err((fault, _)) => write!(text, "{fault:?}")?,
+        Ok((_, kept)) => text_of(alloc, &kept),
+        Err((fault, _)) => Ok(format!(in alloc; "{fault:?}")?),
+    }
+}
+
+/// Of each message its id, its failures and its due moment.
+fn text_of(alloc: Global, kept: &[Kept]) -> Result<String, Fail> {
+    let mut text = String::new(alloc);
+    for one in kept {
+        write!(text, "{}:{}:{} ", one.message.id, one.failures, one.due)?;
     }
     Ok(text)
 }

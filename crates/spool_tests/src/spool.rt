@@ -43,7 +43,7 @@ fn bytes_after(alloc: Global, defers: bool, settles: bool) -> Result<String, Fai
         return Ok(format!(in alloc; "not opened")?);
     };
     let message = message(alloc, 1, "hi")?;
-    if !message.is_proper() || store.contains(message.id) || store.hold(&message).is_err() {
+    if !is_held(&mut store, &message) {
         return Ok(format!(in alloc; "not held")?);
     }
     if defers && !is_deferred(&mut store, message.id) {
@@ -54,6 +54,11 @@ fn bytes_after(alloc: Global, defers: bool, settles: bool) -> Result<String, Fai
     }
     let disk = store.into_disk();
     hexadecimal(alloc, disk.bytes(0))
+}
+
+/// Whether the message is not pending yet and is held.
+pub(crate) fn is_held(store: &mut Store<MemDisk>, message: &Message) -> bool {
+    message.is_proper() && !store.contains(message.id) && store.hold(message).is_ok()
 }
 
 /// Whether room is made for a deferral, and the message deferred.
@@ -219,7 +224,7 @@ fn sound_spools(rt: HostRuntime) -> Result<(), Fail> {
 fn holds_long_body(alloc: Global, store: &mut Store<MemDisk>, id: u128) -> Result<bool, Fail> {
     let body = repeated(alloc, "x", 60_000)?;
     let message = message(alloc, id, body.as_str())?;
-    Ok(message.is_proper() && !store.contains(id) && store.hold(&message).is_ok())
+    Ok(is_held(store, &message))
 }
 
 /// Two messages of 60,000 bytes are held and settled; then the other area has the next generation and no record.
@@ -242,5 +247,25 @@ fn long_area_is_written_anew(rt: HostRuntime) -> Result<(), Fail> {
         hexadecimal(alloc, disk.bytes(1))?.as_str(),
         "014b535002000000000000000000000200"
     );
+    Ok(())
+}
+
+/// Three messages are held and one of them is settled: the ids of the others come in the order of holding.
+#[test]
+fn pending_ids_are_walked(rt: HostRuntime) -> Result<(), Fail> {
+    let alloc = rt.alloc();
+    let Ok((mut store, _)) = Store::open(alloc, MemDisk::new(alloc)) else {
+        return Err(Fail::new(format_args!("not opened")));
+    };
+    for id in [7, 2, 5] {
+        let message = message(alloc, id, "hi")?;
+        assert!(rt; is_held(&mut store, &message));
+    }
+    assert!(rt; is_settled(&mut store, 2));
+    let mut text = String::new(alloc);
+    for id in store.pending() {
+        write!(text, "{id} ")?;
+    }
+    assert_eq!(rt; text.as_str(), "7 5 ");
     Ok(())
 }
