@@ -1,8 +1,8 @@
--- The options of a path in force at a moment, and what its rates admit.
-use Rattle.std.specs.Prelude.{ℕ, ◌==◌, List, [], ◌∷◌, ◌++◌, Bool, true, false, ◌&&◌, Option, Some, None, filter, map, bytes_eq, if◌then◌else◌}
+-- The options of a path in force at a moment, and the moments that its rates count.
+use Rattle.std.specs.Prelude.{ℕ, ◌==◌, List, [], ◌∷◌, Bool, false, ◌&&◌, Option, Some, None, filter, map, bytes_eq, if◌then◌else◌}
 use Rattle.std.specs.List.{list_any}
 use Rattle.kumo_base.specs.Moment.{clamped}
-use Rattle.throttle_spec.specs.Throttle.{Throttle, conforms, least_admitted}
+pub use Rattle.throttle_spec.specs.Rates.{admits, least_by_rate}
 use Rattle.policy_core.specs.Policy.{Policy}
 use Rattle.policy_core.specs.PathTables.{base_of}
 use Rattle.policy_core.specs.Automation.{limits_of}
@@ -41,13 +41,3 @@ begun_at path key before e = begun_if before path key e.at (beginning_in e.what)
 -- the moments at which attempts on connections of the path of a text began under a key
 abbrev pub begun_moments : List Entry → List ℕ → ℕ → List ℕ
 begun_moments h path key = along (begun_at path key) h
-
--- a rate admits one more at a moment, by the moments so far
-abbrev pub admits : Option Throttle → List ℕ → ℕ → Bool
-admits None moments t = true
-admits (Some throttle) moments t = conforms throttle (moments ++ clamped t ∷ [])
-
--- the least moment from t on that it admits; the latest moment where there is none
-abbrev pub least_by_rate : Option Throttle → List ℕ → ℕ → ℕ
-least_by_rate None moments t = clamped t
-least_by_rate (Some throttle) moments t = least_admitted throttle moments t

@@ -1,4 +1,5 @@
 pub mod Limits
 pub mod Throttle
+pub mod Rates
 pub mod Bucket
 pub mod ThrottleText
