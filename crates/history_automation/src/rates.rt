@@ -5,7 +5,8 @@
 ghost use Rattle.std.specs.Prelude.{◌≡◌, ◌∷◌, ◌++◌, [], ℕ, List, option_map, option_to_list};
 ghost use Rattle.kumo_base.specs.Moment.{clamped};
 ghost use Rattle.throttle_spec.specs.Throttle.{Throttle, conforms, least_admitted};
-ghost use Rattle.history_core.specs.Limits.{opened_moments, begun_moments, begun_at, is_text, admits, least_by_rate};
+ghost use Rattle.throttle_spec.specs.Rates.{admits, least_by_rate};
+ghost use Rattle.history_core.specs.Limits.{opened_moments, begun_moments, begun_at, is_text};
 ghost use Rattle.history_core.specs.Connection.{path_of_connection};
 ghost use Rattle.history_automation.specs.inside.Filled.{IsFilled};
 

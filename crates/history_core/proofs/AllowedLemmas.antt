@@ -10,6 +10,7 @@ use Rattle.kumo_base.specs.Moment.{clamped}
 use Rattle.queue_name.specs.QueueName.{Name}
 use Rattle.queue_name.specs.declared.message.Message.{Message}
 use Rattle.throttle_spec.specs.Throttle.{Throttle, conforms}
+use Rattle.throttle_spec.specs.Rates.{admits}
 use Rattle.throttle_spec.proofs.BucketLemmas.{conforms_decides}
 use Rattle.policy_core.specs.Policy.{Policy}
 use Rattle.policy_core.specs.LiveOrders.{holds, bounces}
@@ -23,7 +24,7 @@ use Rattle.history_core.specs.Fate.{fate_of}
 use Rattle.history_core.specs.LiveOrders.{GivenOrder, live_orders, is_held, bounced_by}
 use Rattle.history_core.specs.Connection.{Connection, connections, connection_with, path_of_connection, used, open_connections}
 use Rattle.history_core.specs.Firing.{is_halted, is_covered}
-use Rattle.history_core.specs.Limits.{limits, admits, opened_moments, begun_moments}
+use Rattle.history_core.specs.Limits.{limits, opened_moments, begun_moments}
 use Rattle.history_core.specs.Ready.{ready, is_some_free, is_free_id, first_free}
 use Rattle.history_core.specs.Openable.{admits_opening, admits_beginning, is_openable, message_key}
 use Rattle.history_core.specs.Allowed.{KeepsRate, HasFreeMessage, AllowsOpening, AllowsAttempt}

@@ -2,7 +2,6 @@
 use Rattle.std.specs.Prelude.{ℕ, ◌==◌, List, [], ◌∷◌, Bool, false, ◌&&◌, Option, Some, None, filter, map, bytes_eq, if◌then◌else◌}
 use Rattle.std.specs.List.{list_any}
 use Rattle.kumo_base.specs.Moment.{clamped}
-pub use Rattle.throttle_spec.specs.Rates.{admits, least_by_rate}
 use Rattle.policy_core.specs.Policy.{Policy}
 use Rattle.policy_core.specs.PathTables.{base_of}
 use Rattle.policy_core.specs.Automation.{limits_of}

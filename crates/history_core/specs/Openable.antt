@@ -2,13 +2,14 @@
 use Rattle.std.specs.Prelude.{ℕ, ◌+◌, ◌==◌, nat_lt, nat_le, List, [], ◌∷◌, length, Bool, true, false, not, ◌&&◌, Option, Some, None, is_some, option_map, option_and_then, filter, fold, bytes_eq, if◌then◌else◌}
 use Rattle.std.specs.List.{list_any}
 use Rattle.kumo_base.specs.Moment.{clamped}
+use Rattle.throttle_spec.specs.Rates.{admits, least_by_rate}
 use Rattle.policy_core.specs.Policy.{Policy}
 use Rattle.history_core.specs.declared.entry.Entry.{Entry}
 use Rattle.history_core.specs.declared.path.Path.{Path}
 use Rattle.history_core.specs.History.{text_of, paths, path_named}
 use Rattle.history_core.specs.Connection.{Connection, connections, connection_with, path_of_connection, open_connections, idle_connections, used, idle_since}
 use Rattle.history_core.specs.Firing.{is_halted}
-use Rattle.history_core.specs.Limits.{limits, opened_moments, begun_moments, admits, least_by_rate}
+use Rattle.history_core.specs.Limits.{limits, opened_moments, begun_moments}
 use Rattle.history_core.specs.Ready.{first_free}
 
 -- the rate of connections of the path admits one at a moment

@@ -2,6 +2,7 @@
 use Rattle.std.specs.Prelude.{ℕ, ◌+◌, nat_lt, min, List, [], ◌∷◌, ◌++◌, not, ◌&&◌, Option, is_some, option_map, option_and_then, filter, filter_map, map, flat_map, fold, if◌then◌else◌}
 use Rattle.kumo_base.specs.Limits.{latest_moment}
 use Rattle.kumo_base.specs.Moment.{clamped}
+use Rattle.throttle_spec.specs.Rates.{least_by_rate}
 use Rattle.policy_core.specs.Policy.{Policy}
 use Rattle.policy_core.specs.LiveOrders.{end_of, duration_of}
 use Rattle.history_core.specs.declared.entry.Entry.{Entry}
@@ -12,7 +13,7 @@ use Rattle.history_core.specs.Retry.{due, settings_for}
 use Rattle.history_core.specs.LiveOrders.{live_orders}
 use Rattle.history_core.specs.Connection.{Connection, is_in_flight, idle_connections, idle_since}
 use Rattle.history_core.specs.Firing.{firings_in_force}
-use Rattle.history_core.specs.Limits.{limits, opened_moments, least_by_rate}
+use Rattle.history_core.specs.Limits.{limits, opened_moments}
 use Rattle.history_core.specs.Ready.{is_ready, first_free}
 use Rattle.history_core.specs.Openable.{next_beginning}
 
