@@ -22,7 +22,7 @@ Cut n ns = (xs : List ℕ) × (ys : List ℕ) × (ns ≡ xs ++ n ∷ ys)
 pub cut_at : (n : ℕ) (ns : List ℕ) → has n ns ≡ true → Cut n ns
 cut_at n [] is = absurd (true≢false (sym is))
 cut_at n (x ∷ ns) is =
-    ⊎_elim {C = λ _. Cut n (x ∷ ns)} (λ here. ([], ns, ap (λ k. k ∷ ns) (eqb-true x n here)))
+    ⊎_elim (λ here. ([], ns, ap (λ k. k ∷ ns) (eqb-true x n here)))
     (λ later. let rest = cut_at n ns later in (x ∷ rest.0, rest.1, ap (λ l. x ∷ l) rest.2))
     (or_cases (eqb x n) (has n ns) is)
 
@@ -57,7 +57,7 @@ distinct_halves (x ∷ xs) ys distinct =
     let none = or_parts (has x xs) (has x ys) (sym (has-append x xs ys) ∙ not-true (has x (xs ++ ys)) parts.0) in (
       and_from (not (has x xs)) (are_distinct xs) (not_from_false (has x xs) none.0) rest.0,
       rest.1,
-      λ n is. ⊎_elim {C = λ _. has n ys ≡ false} (λ here. ap (λ k. has k ys) (sym (eqb-true x n here)) ∙ none.1) (λ later. rest.2 n later)
+      λ n is. ⊎_elim (λ here. ap (λ k. has k ys) (sym (eqb-true x n here)) ∙ none.1) (λ later. rest.2 n later)
           (or_cases (eqb x n) (has n xs) is),
     )
 
@@ -99,20 +99,20 @@ has_without k xs n ys before behind =
 -- of the others each stood there before
 pub stood : (k : ℕ) (xs : List ℕ) (n : ℕ) (ys : List ℕ) → has k (xs ++ ys) ≡ true → has k (xs ++ n ∷ ys) ≡ true
 stood k xs n ys is =
-    ⊎_elim {C = λ _. has k (xs ++ n ∷ ys) ≡ true} (λ left. has_before k xs (n ∷ ys) left) (λ right. has_behind k xs (n ∷ ys) (or_right (eqb n k) (has k ys) right))
+    ⊎_elim (λ left. has_before k xs (n ∷ ys) left) (λ right. has_behind k xs (n ∷ ys) (or_right (eqb n k) (has k ys) right))
     (or_cases (has k xs) (has k ys) (sym (has-append k xs ys) ∙ is))
 
 pub fits_push : (ns : List ℕ) (n : ℕ) → AllFit ns → n < 2 ^ 32 → AllFit (ns ++ n ∷ [])
 fits_push ns n fits is k there =
-    ⊎_elim {C = λ _. k < 2 ^ 32} (λ left. fits k left)
-    (λ right. ⊎_elim {C = λ _. k < 2 ^ 32} (λ here. subst (λ i. i < 2 ^ 32) (eqb-true n k here) is) (λ no. absurd (true≢false (sym no))) (or_cases (eqb n k) false right))
+    ⊎_elim (λ left. fits k left)
+    (λ right. ⊎_elim (λ here. subst (λ i. i < 2 ^ 32) (eqb-true n k here) is) (λ no. absurd (true≢false (sym no))) (or_cases (eqb n k) false right))
     (or_cases (has k ns) (has k (n ∷ [])) (sym (has-append k ns (n ∷ [])) ∙ there))
 
 -- one more that is held
 pub held_more : (Answers : ℕ → Bool → Type 0) (xs : List ℕ) (n : ℕ) → AllHeld Answers xs → Answers n true → AllHeld Answers (xs ++ n ∷ [])
 held_more Answers xs n held is k there =
-    ⊎_elim {C = λ _. Answers k true} (λ left. held k left)
-    (λ right. ⊎_elim {C = λ _. Answers k true} (λ here. subst (λ i. Answers i true) (eqb-true n k here) is) (λ no. absurd (true≢false (sym no))) (or_cases (eqb n k) false right))
+    ⊎_elim (λ left. held k left)
+    (λ right. ⊎_elim (λ here. subst (λ i. Answers i true) (eqb-true n k here) is) (λ no. absurd (true≢false (sym no))) (or_cases (eqb n k) false right))
     (or_cases (has k xs) (has k (n ∷ [])) (sym (has-append k xs (n ∷ [])) ∙ there))
 
 -- the first that is free by the answers is the first by the test that they give
@@ -124,18 +124,18 @@ passed_over test (x ∷ xs) ys held =
 
 pub free_by_test : (Answers : ℕ → Bool → Type 0) (test : ℕ → Bool) (ns : List ℕ) (found : Option ℕ) → AllFit ns → AnswersAs Answers test ns
     → IsFirstFree Answers ns found → found ≡ first_free test ns
-free_by_test Answers test ns None fits as is =
-    sym (ap (first_free test) (sym (append_none ns)) ∙ passed_over test ns [] (λ n there. sym (as n true (fits n there) there (is n there))))
+free_by_test Answers test ns None fits answered is =
+    sym (ap (first_free test) (sym (append_none ns)) ∙ passed_over test ns [] (λ n there. sym (answered n true (fits n there) there (is n there))))
   where
     append_none : (ns : List ℕ) → ns ++ [] ≡ ns
     append_none [] = refl
     append_none (x ∷ ns) = ap (λ l. x ∷ l) (append_none ns)
-free_by_test Answers test ns (Some n) fits as is =
+free_by_test Answers test ns (Some n) fits answered is =
     let xs = is.0 in
     let ys = is.1 in
     let there : (k : ℕ) → has k (xs ++ n ∷ ys) ≡ true → has k ns ≡ true = λ k h. ap (has k) is.2 ∙ h in
     let held : (k : ℕ) → has k xs ≡ true → test k ≡ true =
-    λ k h. let in_all = there k (has_before k xs (n ∷ ys) h) in sym (as k true (fits k in_all) in_all (is.3 k h)) in
+    λ k h. let in_all = there k (has_before k xs (n ∷ ys) h) in sym (answered k true (fits k in_all) in_all (is.3 k h)) in
     let own = there n (has_behind n xs (n ∷ ys) (or_left (eqb n n) (has n ys) (eq-eqb n n refl))) in
-    let free : test n ≡ false = sym (as n false (fits n own) own is.4) in
+    let free : test n ≡ false = sym (answered n false (fits n own) own is.4) in
     sym (ap (first_free test) is.2 ∙ passed_over test xs (n ∷ ys) held ∙ rw free refl)
