@@ -27,10 +27,23 @@ module _ {S : Type 0} (old gone joined new : IndexMap ℕ Link S) (first last st
       (sym found ∙ there) ns is
 
 pub invariant_of-self : goal.invariant_of-self
-invariant_of-self c = ?
+invariant_of-self c =
+    let old = c.self.inside.links in
+    let new = c.swap_remove.new.self in
+    let same = c.in_default.ensures.unchanged in
+    let is = same_queue (get nat_eq old) (get nat_eq new) (index_map_len old) (index_map_len new) _ _ _
+        (λ n. ap (λ es. lookup (nat_eq n) es) same) (ap length same) c.self.invariant in
+    by_walk _ _ _ _ _ is
 
 pub returns-in_default-clause-numbers : goal.returns-in_default-clause-numbers
-returns-in_default-clause-numbers c = ?
+returns-in_default-clause-numbers c =
+    let s = c.self.inside in
+    let n = c.args.number in
+    let numbers = ap (λ v. v.numbers) c.self.view_is in
+    let is = subst (IsQueue (get nat_eq s.links) (index_map_len s.links) s.first s.last) numbers c.self.invariant in
+    let none : has n c.args.self.now.numbers ≡ false = sym (is.knows n) ∙ ap is_some (sym c.swap_remove.ensures.value ∙ c.in_default.is) in
+    ap (λ es. walked (λ k. lookup (nat_eq k) es) (length es) s.first) c.in_default.ensures.unchanged ∙ numbers
+    ∙ sym (without_absent n c.args.self.now.numbers none)
 
 pub invariant_of-self-2 : goal.invariant_of-self-2
 invariant_of-self-2 c =
