@@ -1,12 +1,12 @@
 -- Numbers that are linked, cut and joined.
-use Rattle.std.proofs.Common.{◌≡◌, ◌≤◌, ℕ, zero, suc, List, [], ◌∷◌, ◌++◌, Bool, true, false, not, cond, eqb, Option, Some, None, length, length-append, is_some, option_map, refl, sym, ap, ◌∙◌, arith}
-use Rattle.std.proofs.lemmas.Bool.{eqb-true, eq-eqb, ne_eqb, cond-true, cond-false, true≢false, not-true, and_parts, or_left, or_right}
+use Rattle.std.proofs.Common.{◌≡◌, ◌≤◌, ℕ, zero, suc, List, [], ◌∷◌, ◌++◌, Bool, true, false, not, cond, eqb, Option, Some, None, length, is_some, option_map, refl, sym, ap, ◌∙◌, arith}
+use Rattle.std.proofs.lemmas.Bool.{eq-eqb, ne_eqb, cond-true, cond-false, true≢false, not-true, and_parts, or_left, or_right}
 use Rattle.std.specs.List.{last_or}
 use Rattle.std.specs.Option.{option_and_then}
 use Rattle.ready_queue.specs.declared.links.Link.{Link}
-use Rattle.ready_queue.specs.Queue.{has, without, are_distinct}
-use Rattle.ready_queue.specs.Links.{first_or, AreLinked, walked, IsQueue, going_to, coming_from, with_next, with_previous}
-use Rattle.ready_queue.proofs.QueueLemmas.{has-append}
+use Rattle.ready_queue.specs.Queue.{has, are_distinct}
+use Rattle.ready_queue.specs.Links.{first_or, AreLinked, walked}
+use Rattle.ready_queue.specs.inside.Joins.{going_to, coming_from, with_next, with_previous}
 
 pub first_or-append : (behind : Option ℕ) (xs ys : List ℕ) → first_or behind (xs ++ ys) ≡ first_or (first_or behind ys) xs
 first_or-append behind [] ys = refl
@@ -53,9 +53,10 @@ module _ (links : ℕ → Option Link) where
     pub linked_same : (before : Option ℕ) (ns : List ℕ) (behind : Option ℕ) → ((n : ℕ) → has n ns ≡ true → after n ≡ links n)
         → AreLinked links before ns behind → AreLinked after before ns behind
     linked_same before [] behind same linked = tt
-    linked_same before (n ∷ ns) behind same linked =
-        (same n (or_left (eqb n n) (has n ns) (eq-eqb n n refl)) ∙ linked.0,
-        linked_same (Some n) ns behind (λ k is. same k (or_right (eqb n k) (has k ns) is)) linked.1)
+    linked_same before (n ∷ ns) behind same linked = (
+      same n (or_left (eqb n n) (has n ns) (eq-eqb n n refl)) ∙ linked.0,
+      linked_same (Some n) ns behind (λ k is. same k (or_right (eqb n k) (has k ns) is)) linked.1,
+    )
 
 -- the link of another number stays, and that of the number takes what is put behind or before it
 pub next_other : (previous next : Option ℕ) (n : ℕ) (link : Option Link) → (previous ≡ Some n → ⊥) → with_next previous next n link ≡ link
@@ -105,10 +106,11 @@ module _ (links after : ℕ → Option Link) where
   linked_next before (n ∷ []) behind next distinct now linked =
       (now n (or_left (eqb n n) false (eq-eqb n n refl)) ∙ next_own next n (links n) ∙ ap (option_map (going_to next)) linked.0, tt)
   linked_next before (n ∷ m ∷ ns) behind next distinct now linked =
-      let other : last_or (Some m) ns ≡ Some n → ⊥ = λ is. head_apart n (m ∷ ns) n distinct (last_stands m ns n is) refl in
-      (now n (or_left (eqb n n) (has n (m ∷ ns)) (eq-eqb n n refl)) ∙ next_other (last_or (Some m) ns) next n (links n) other ∙ linked.0,
-      linked_next (Some n) (m ∷ ns) behind next (and_parts (not (has n (m ∷ ns))) (are_distinct (m ∷ ns)) distinct).1
-      (λ k is. now k (or_right (eqb n k) (has k (m ∷ ns)) is)) linked.1)
+      let other : last_or (Some m) ns ≡ Some n → ⊥ = λ is. head_apart n (m ∷ ns) n distinct (last_stands m ns n is) refl in (
+        now n (or_left (eqb n n) (has n (m ∷ ns)) (eq-eqb n n refl)) ∙ next_other (last_or (Some m) ns) next n (links n) other ∙ linked.0,
+        linked_next (Some n) (m ∷ ns) behind next (and_parts (not (has n (m ∷ ns))) (are_distinct (m ∷ ns)) distinct).1
+            (λ k is. now k (or_right (eqb n k) (has k (m ∷ ns)) is)) linked.1,
+      )
 
   -- another number is put before the first
   pub linked_previous : (before previous : Option ℕ) (ns : List ℕ) (behind : Option ℕ) → are_distinct ns ≡ true
@@ -118,6 +120,7 @@ module _ (links after : ℕ → Option Link) where
   linked_previous before previous (n ∷ ns) behind distinct now linked =
       let rest : (k : ℕ) → has k ns ≡ true → after k ≡ links k =
       λ k is. now k (or_right (eqb n k) (has k ns) is)
-          ∙ previous_other (Some n) previous k (links k) (λ same. head_apart n ns k distinct is cc) in
-      (now n (or_left (eqb n n) (has n ns) (eq-eqb n n refl)) ∙ previous_own previous n (links n) ∙ ap (option_map (coming_from previous)) linked.0,
-      linked_same links after (Some n) ns behind rest linked.1)
+      ∙ previous_other (Some n) previous k (links k) (λ same. head_apart n ns k distinct is cc) in (
+        now n (or_left (eqb n n) (has n ns) (eq-eqb n n refl)) ∙ previous_own previous n (links n) ∙ ap (option_map (coming_from previous)) linked.0,
+        linked_same links after (Some n) ns behind rest linked.1,
+      )

@@ -1,11 +1,12 @@
 -- Links that are right about a queue stay right by each step.
-use Rattle.std.proofs.Common.{◌≡◌, ◌<◌, ◌+◌, ◌^◌, ℕ, List, [], ◌∷◌, ◌++◌, Bool, true, false, cond, ◌||◌, eqb, nat_eq, Option, Some, None, length, length-append, is_some, refl, sym, ap, ◌∙◌, subst, arith}
-use Rattle.std.proofs.lemmas.Bool.{eqb-true, eq-eqb, ne_eqb, cond-true, cond-false, true≢false}
+use Rattle.std.proofs.Common.{◌≡◌, ◌<◌, ◌+◌, ◌^◌, ℕ, List, [], ◌∷◌, ◌++◌, Bool, true, false, cond, ◌||◌, nat_eq, Option, Some, None, length-append, is_some, refl, sym, ap, ◌∙◌, subst, arith}
+use Rattle.std.proofs.lemmas.Bool.{eq-eqb, ne_eqb, cond-true, cond-false, true≢false}
 use Rattle.std.specs.List.{last_or}
 use Rattle.ready_queue.specs.declared.links.Link.{Link}
-use Rattle.ready_queue.specs.Queue.{has, without, are_distinct}
-use Rattle.ready_queue.specs.Links.{first_or, AreLinked, walked, IsQueue, with_next, with_previous}
-use Rattle.ready_queue.proofs.QueueLemmas.{has-append, has_before, has_behind, Cut, cut_at, distinct_parts, distinct_halves, distinct_push, without_between, has_without, stood, fits_push}
+use Rattle.ready_queue.specs.Queue.{has, without}
+use Rattle.ready_queue.specs.Links.{first_or, walked, IsQueue}
+use Rattle.ready_queue.specs.inside.Joins.{with_next, with_previous}
+use Rattle.ready_queue.proofs.QueueLemmas.{has-append, cut_at, distinct_parts, distinct_halves, distinct_push, without_between, has_without, stood, fits_push}
 use Rattle.ready_queue.proofs.LinkLemmas.{last_or-append, first_stands, last_stands, walked_all, linked_parts, linked_join, linked_same, linked_next, linked_previous, next_other, previous_other, known_next, known_previous}
 
 -- a walk from the first gives the numbers
@@ -70,7 +71,7 @@ pushed links joined after count now first last start ns n is none fits joins upd
     let own : Link = record { previous = last; next = None } in
     let among : (k : ℕ) → has k ns ≡ true → after k ≡ with_next (last_or None ns) (Some n) k (links k) =
     λ k there. updates k ∙ cond-false (nat_eq n k) (Some own) (joined k) (ne_eqb n k (apart n k ns none there)) ∙ joins k
-        ∙ ap (λ l. with_next l (Some n) k (links k)) is.ends in
+    ∙ ap (λ l. with_next l (Some n) k (links k)) is.ends in
     let here : after n ≡ Some (record { previous = last_or None ns; next = None }) =
     updates n ∙ cond-true (nat_eq n n) (Some own) (joined n) (eq-eqb n n refl) ∙ ap (λ l. Some (record { previous = l; next = None })) is.ends in
     record {
@@ -122,16 +123,16 @@ module _ (links gone joined after : ℕ → Option Link) (count now : ℕ) (firs
       λ k there. goes k ∙ cond-false (nat_eq n k) None (links k) (ne_eqb n k (apart n k ys about.1 there)) in
       let before : (k : ℕ) → has k xs ≡ true → joined k ≡ with_next (last_or None xs) (first_or None ys) k (links k) =
       λ k there. joins k ∙ ap (λ l. with_next l link.next k (gone k)) previous ∙ ap (λ l. with_next (last_or None xs) l k (gone k)) next
-          ∙ ap (with_next (last_or None xs) (first_or None ys) k) (left k there) in
+      ∙ ap (with_next (last_or None xs) (first_or None ys) k) (left k there) in
       let stays : (k : ℕ) → has k xs ≡ true → after k ≡ joined k =
       λ k there. updates k ∙ previous_other link.next link.previous k (joined k)
-          (λ is_next. true≢false (sym (first_stands ys k (sym next ∙ is_next)) ∙ halves.2 k there)) in
+      (λ is_next. true≢false (sym (first_stands ys k (sym next ∙ is_next)) ∙ halves.2 k there)) in
       let kept : (k : ℕ) → has k ys ≡ true → joined k ≡ links k =
       λ k there. joins k ∙ next_other link.previous link.next k (gone k)
-          (λ is_previous. true≢false (sym there ∙ halves.2 k (last_among xs k (sym previous ∙ is_previous)))) ∙ right k there in
+      (λ is_previous. true≢false (sym there ∙ halves.2 k (last_among xs k (sym previous ∙ is_previous)))) ∙ right k there in
       let behind : (k : ℕ) → has k ys ≡ true → after k ≡ with_previous (first_or None ys) (last_or None xs) k (links k) =
       λ k there. updates k ∙ ap (λ l. with_previous l link.previous k (joined k)) next ∙ ap (λ l. with_previous (first_or None ys) l k (joined k)) previous
-          ∙ ap (with_previous (first_or None ys) (last_or None xs) k) (kept k there) in
+      ∙ ap (with_previous (first_or None ys) (last_or None xs) k) (kept k there) in
       record {
         linked = linked_join after None xs ys None
             (linked_same joined after None xs (first_or None ys) stays (linked_next links joined None xs (Some n) (first_or None ys) halves.0 before parts.0))

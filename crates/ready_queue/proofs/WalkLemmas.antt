@@ -1,5 +1,5 @@
 -- A walk along the links of a queue that asks of each number whether it is held.
-use Rattle.std.proofs.Common.{◌≡◌, ◌<◌, ◌+◌, ℕ, List, [], ◌∷◌, ◌++◌, Bool, true, false, eqb, Option, Some, None, length, length-append, is_some, append_assoc, refl, sym, ap, ◌∙◌, subst, arith}
+use Rattle.std.proofs.Common.{◌≡◌, ◌<◌, ℕ, List, [], ◌∷◌, ◌++◌, Bool, true, false, eqb, Option, Some, None, length, length-append, is_some, append_assoc, refl, sym, ap, ◌∙◌, subst, arith}
 use Rattle.std.proofs.lemmas.Bool.{eq-eqb, or_left}
 use Rattle.std.specs.List.{last_or}
 use Rattle.ready_queue.specs.declared.links.Link.{Link}
@@ -95,6 +95,7 @@ module _ (Answers : ℕ → Bool → Type 0) (links : ℕ → Option Link) (coun
       append_none : (xs : List ℕ) → xs ++ [] ≡ xs
       append_none [] = refl
       append_none (x ∷ xs) = ap (λ l. x ∷ l) (append_none xs)
+
       by : (rest : List ℕ) → ns ≡ is.passed ++ rest → None ≡ first_or None rest → AllHeld Answers ns
       by [] whole begins = subst (AllHeld Answers) (sym (whole ∙ append_none is.passed)) is.held
       by (m ∷ tail) whole begins = absurd cc

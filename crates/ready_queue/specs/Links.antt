@@ -1,5 +1,5 @@
 -- The numbers of a queue, each linked to the one before it and to the one behind it.
-use Rattle.std.specs.Prelude.{◌≡◌, ℕ, zero, suc, ◌==◌, true, List, [], ◌∷◌, Option, Some, None, if◌then◌else◌, option_map, length, is_some, ⊤}
+use Rattle.std.specs.Prelude.{◌≡◌, ℕ, zero, suc, true, List, [], ◌∷◌, Option, Some, None, length, is_some, ⊤}
 use Rattle.std.specs.List.{last_or}
 use Rattle.std.specs.Option.{option_and_then}
 use Rattle.ready_queue.specs.declared.links.Link.{Link}
@@ -31,21 +31,3 @@ pub record IsQueue (links : ℕ → Option Link) (count : ℕ) (first last : Opt
   pub counts : count ≡ length numbers
   pub distinct : are_distinct numbers ≡ true
   pub fits : AllFit numbers
-
--- what a number has before and behind it, with another behind
-abbrev pub going_to : Option ℕ → Link → Link
-going_to next l = record l { next = next }
-
--- and with another before
-abbrev pub coming_from : Option ℕ → Link → Link
-coming_from previous l = record l { previous = previous }
-
--- the links at n, once `next` stands behind `previous`
-abbrev pub with_next : Option ℕ → Option ℕ → ℕ → Option Link → Option Link
-with_next None next n link = link
-with_next (Some previous) next n link = if previous == n then option_map (going_to next) link else link
-
--- and once `previous` stands before `next`
-abbrev pub with_previous : Option ℕ → Option ℕ → ℕ → Option Link → Option Link
-with_previous None previous n link = link
-with_previous (Some next) previous n link = if next == n then option_map (coming_from previous) link else link

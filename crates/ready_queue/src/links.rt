@@ -1,7 +1,7 @@
 //! The links between the numbers that stand next to each other in a queue.
 ghost use Rattle.std.specs.Prelude.{◌≡◌, ℕ, if◌then◌else◌, is_some, nat_eq};
 ghost use Rattle.indexmap.specs.IndexMap.{get, index_map_len, spare};
-ghost use Rattle.ready_queue.specs.Links.{with_next, with_previous};
+ghost use Rattle.ready_queue.specs.inside.Joins.{with_next, with_previous};
 
 use indexmap::IndexMap;
 

@@ -63,16 +63,19 @@ impl Ready {
     {
         let previous = self.last;
         link_next(&mut self.links, &mut self.first, previous, Some(number));
-        let _absent = self.links.insert(number, Link {
-            previous,
-            next: None,
-        });
+        let _absent = self.links.insert(
+            number,
+            Link {
+                previous,
+                next: None,
+            },
+        );
         self.last = Some(number);
     }
 
     /// The first message, in the order of promotion, that is not held. It asks of no message behind that one.
     pub fn first_free<F: Fn(u32) -> bool>(&self, held: &F) -> Option<u32>
-        requires { (n : ℕ) → n < 2 ^ 32 → has n self.now.numbers ≡ true → F.pre held.now n }
+        requires callable { (n : ℕ) → n < 2 ^ 32 → has n self.now.numbers ≡ true → F.pre held.now n }
         ensures answers { IsFirstFree (F.post held.now) self.now.numbers result }
         ensures first { (test : ℕ → Bool) → AnswersAs (F.post held.now) test self.now.numbers
             → result ≡ first_free test self.now.numbers }

@@ -1,9 +1,10 @@
-use Rattle.std.proofs.Common.{◌≡◌, ◌<◌, ◌+◌, ◌^◌, ◌++◌, ◌∷◌, [], ℕ, List, true, false, cond, Option, Some, None, Result, Ok, Err, IsOk, IfOk, OnOk, is_some, nat_eq, ap, ◌∙◌, sym, subst, arith}
+use Rattle.std.proofs.Common.{◌≡◌, ◌<◌, ◌+◌, ◌^◌, ◌++◌, ◌∷◌, [], ℕ, List, false, cond, Option, Some, None, Result, Ok, Err, IsOk, IfOk, OnOk, is_some, nat_eq, ap, ◌∙◌, sym, subst, arith}
 use Rattle.std.proofs.lemmas.Bool.{true≢false}
-use Rattle.indexmap.specs.IndexMap.{IndexMap, get, index_map_len, spare, Updates}
+use Rattle.indexmap.specs.IndexMap.{IndexMap, get, index_map_len, Updates}
 use Rattle.ready_queue.specs.declared.links.Link.{Link}
 use Rattle.ready_queue.specs.Queue.{has}
-use Rattle.ready_queue.specs.Links.{IsQueue, with_next}
+use Rattle.ready_queue.specs.Links.{IsQueue}
+use Rattle.ready_queue.specs.inside.Joins.{with_next}
 use Rattle.ready_queue.proofs.LinkLemmas.{known_next}
 use Rattle.ready_queue.proofs.StepLemmas.{pushed, walk_of, by_walk}
 use Rattle.ready_queue.proofs.queue.Ready.push.Goals as goal

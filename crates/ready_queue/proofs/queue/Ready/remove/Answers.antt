@@ -1,9 +1,10 @@
-use Rattle.std.proofs.Common.{◌≡◌, ◌+◌, ℕ, List, true, false, cond, Option, Some, None, is_some, nat_eq, length, ap, ◌∙◌, sym, subst}
+use Rattle.std.proofs.Common.{◌≡◌, ◌+◌, ℕ, List, false, cond, Option, Some, None, is_some, nat_eq, length, ap, ◌∙◌, sym, subst}
 use Rattle.std.specs.Map.{lookup}
 use Rattle.indexmap.specs.IndexMap.{IndexMap, get, index_map_len, Updates}
 use Rattle.ready_queue.specs.declared.links.Link.{Link}
 use Rattle.ready_queue.specs.Queue.{has, without}
-use Rattle.ready_queue.specs.Links.{IsQueue, walked, with_next, with_previous}
+use Rattle.ready_queue.specs.Links.{IsQueue, walked}
+use Rattle.ready_queue.specs.inside.Joins.{with_next, with_previous}
 use Rattle.ready_queue.proofs.QueueLemmas.{without_absent}
 use Rattle.ready_queue.proofs.StepLemmas.{same_queue, removed, walk_of, by_walk}
 use Rattle.ready_queue.proofs.queue.Ready.remove.Goals as goal
@@ -32,7 +33,7 @@ invariant_of-self c =
     let new = c.swap_remove.new.self in
     let same = c.in_default.ensures.unchanged in
     let is = same_queue (get nat_eq old) (get nat_eq new) (index_map_len old) (index_map_len new) _ _ _
-        (λ n. ap (λ es. lookup (nat_eq n) es) same) (ap length same) c.self.invariant in
+    (λ n. ap (λ es. lookup (nat_eq n) es) same) (ap length same) c.self.invariant in
     by_walk _ _ _ _ _ is
 
 pub returns-in_default-clause-numbers : goal.returns-in_default-clause-numbers

@@ -1,8 +1,8 @@
-use Rattle.std.proofs.Common.{◌≡◌, length, nat_eq, ap, ◌∙◌, sym}
+use Rattle.std.proofs.Common.{length, nat_eq, ap, ◌∙◌}
 use Rattle.std.specs.Map.{lookup}
 use Rattle.indexmap.specs.IndexMap.{get, index_map_len}
 use Rattle.ready_queue.specs.Links.{walked}
-use Rattle.ready_queue.proofs.StepLemmas.{same_queue, walk_of, by_walk}
+use Rattle.ready_queue.proofs.StepLemmas.{same_queue, by_walk}
 use Rattle.ready_queue.proofs.queue.Ready.reserve.Goals as goal
 
 pub invariant_of-self : goal.invariant_of-self
@@ -10,7 +10,7 @@ invariant_of-self c =
     let old = c.self.inside.links in
     let new = c.reserve.new.self in
     let is = same_queue (get nat_eq old) (get nat_eq new) (index_map_len old) (index_map_len new) _ _ _
-        (λ n. ap (λ es. lookup (nat_eq n) es) c.reserve.ensures.entries) (ap length c.reserve.ensures.entries) c.self.invariant in
+    (λ n. ap (λ es. lookup (nat_eq n) es) c.reserve.ensures.entries) (ap length c.reserve.ensures.entries) c.self.invariant in
     by_walk _ _ _ _ _ is
 
 pub returns-in_err-reserve-clause-numbers : goal.returns-in_err-reserve-clause-numbers
@@ -22,7 +22,7 @@ invariant_of-self-2 c =
     let old = c.self.inside.links in
     let new = c.reserve.new.self in
     let is = same_queue (get nat_eq old) (get nat_eq new) (index_map_len old) (index_map_len new) _ _ _
-        (λ n. ap (λ es. lookup (nat_eq n) es) c.reserve.ensures.entries) (ap length c.reserve.ensures.entries) c.self.invariant in
+    (λ n. ap (λ es. lookup (nat_eq n) es) c.reserve.ensures.entries) (ap length c.reserve.ensures.entries) c.self.invariant in
     by_walk _ _ _ _ _ is
 
 pub returns-clause-numbers : goal.returns-clause-numbers
