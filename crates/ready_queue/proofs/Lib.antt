@@ -1,0 +1,4 @@
+pub mod QueueLemmas
+pub mod LinkLemmas
+pub mod StepLemmas
+pub mod WalkLemmas
