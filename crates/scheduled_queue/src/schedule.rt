@@ -1,0 +1,7 @@
+//! Messages and when they are due.
+
+/// Messages.
+#[derive(Drop)]
+pub struct Schedule {
+    n: u32,
+}
