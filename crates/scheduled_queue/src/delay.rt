@@ -11,7 +11,7 @@ use policy_core::Settings;
 pub fn delay_after(settings: &Settings, n: u32) -> u64
     ensures { result ≡ delay_after settings.now n }
 {
-    let factor = 2_u64.checked_pow(n.saturating_sub(1)).unwrap_or(u64::MAX);
+    let factor = 2_u64.saturating_pow(n.saturating_sub(1));
     let wait = settings.retry_interval.saturating_mul(factor);
     let bound = settings.max_retry_interval.unwrap_or(LAST_MOMENT);
     wait.min(bound).min(LAST_MOMENT)

@@ -65,13 +65,14 @@ fn split(tree: Tree, member: Due) -> (Tree, Tree)
     match tree {
         None => (None, None),
         Some(mut root) => {
-            if member.is_before(root.member) {
-                let (before, behind) = split(root.before.take(), member);
-                root.before = behind;
+            let node = &mut *root;
+            if member.is_before(node.member) {
+                let (before, behind) = split(node.before.take(), member);
+                node.before = behind;
                 (before, Some(root))
             } else {
-                let (before, behind) = split(root.behind.take(), member);
-                root.behind = before;
+                let (before, behind) = split(node.behind.take(), member);
+                node.behind = before;
                 (Some(root), behind)
             }
         }
@@ -87,10 +88,12 @@ fn join(first: Tree, second: Tree) -> Tree
         (first, None) => first,
         (Some(mut first), Some(mut second)) => {
             if first.priority > second.priority {
-                first.behind = join(first.behind.take(), Some(second));
+                let node = &mut *first;
+                node.behind = join(node.behind.take(), Some(second));
                 Some(first)
             } else {
-                second.before = join(Some(first), second.before.take());
+                let node = &mut *second;
+                node.before = join(Some(first), node.before.take());
                 Some(second)
             }
         }

@@ -1,0 +1,95 @@
+-- Lists of messages in order, and what the functions of a tree do with them.
+use Rattle.std.proofs.Common.{◌≡◌, ℕ, List, [], ◌∷◌, ◌++◌, Bool, true, false, ◌||◌, ◌&&◌, cond, refl, sym, ap, ◌∙◌, inl, inr}
+use Rattle.std.specs.List.{list_all, list_any, filter}
+use Rattle.std.proofs.lemmas.Bool.{cond-true, cond-false, and_parts, and_from, true≢false, cases_Bool}
+use Rattle.std.proofs.lemmas.List.Folds.{list_all-append}
+use Rattle.scheduled_queue.specs.declared.due.Due.{Due}
+use Rattle.scheduled_queue.specs.Dues.{is_before, are_in_order, inserted}
+use Rattle.scheduled_queue.specs.inside.Tree.{until, beyond, without_due}
+use Rattle.scheduled_queue.proofs.Order.{before_trans, before_turned, before_behind}
+
+-- a list in order, about one of its members
+pub record About (ls : List Due) (e : Due) (rs : List Due) : Type 0 where
+  pub left : are_in_order ls ≡ true
+  pub right : are_in_order rs ≡ true
+  pub before : list_all (λ d. is_before d e) ls ≡ true
+  pub behind : list_all (is_before e) rs ≡ true
+
+pub about : (ls : List Due) (e : Due) (rs : List Due) → are_in_order (ls ++ e ∷ rs) ≡ true → About ls e rs
+about [] e rs h =
+    let p = and_parts (list_all (is_before e) rs) (are_in_order rs) h in
+    record { left = refl; right = p.1; before = refl; behind = p.0 }
+about (x ∷ ls) e rs h =
+    let p = and_parts (list_all (is_before x) (ls ++ e ∷ rs)) (are_in_order (ls ++ e ∷ rs)) h in
+    let rest = about ls e rs p.1 in
+    let all = and_parts (list_all (is_before x) ls) (list_all (is_before x) (e ∷ rs)) (sym (list_all-append (is_before x) ls (e ∷ rs)) ∙ p.0) in
+    let here = and_parts (is_before x e) (list_all (is_before x) rs) all.1 in
+    record {
+      left = and_from (list_all (is_before x) ls) (are_in_order ls) all.0 rest.left;
+      right = rest.right;
+      before = and_from (is_before x e) (list_all (λ d. is_before d e) ls) here.0 rest.before;
+      behind = rest.behind;
+    }
+
+-- a choice with the same behind both
+spread : {X : Type 0} (b : Bool) (xs ys zs : List X) → cond b (xs ++ zs) (ys ++ zs) ≡ cond b xs ys ++ zs
+spread true xs ys zs = refl
+spread false xs ys zs = refl
+
+later : (x : Due) (ls : List Due) (e : Due) (rs : List Due) → are_in_order ((x ∷ ls) ++ e ∷ rs) ≡ true → are_in_order (ls ++ e ∷ rs) ≡ true
+later x ls e rs h = (and_parts (list_all (is_before x) (ls ++ e ∷ rs)) (are_in_order (ls ++ e ∷ rs)) h).1
+
+past : (d x : Due) (ls : List Due) (e : Due) (rs : List Due) → is_before d e ≡ false → are_in_order ((x ∷ ls) ++ e ∷ rs) ≡ true → is_before d x ≡ false
+past d x ls e rs f h =
+    let here = (about (x ∷ ls) e rs h).before in
+    before_behind x e d (and_parts (is_before x e) (list_all (λ d. is_before d e) ls) here).0 f
+
+-- one is before the member: what is up to it stands on the left
+pub until_left : (d : Due) (ls : List Due) (e : Due) (rs : List Due) → is_before d e ≡ true → until d (ls ++ e ∷ rs) ≡ until d ls
+until_left d [] e rs t = cond-true _ _ _ t
+until_left d (x ∷ ls) e rs t = ap (λ l. cond (is_before d x) [] (x ∷ l)) (until_left d ls e rs t)
+
+pub beyond_left : (d : Due) (ls : List Due) (e : Due) (rs : List Due) → is_before d e ≡ true → beyond d (ls ++ e ∷ rs) ≡ beyond d ls ++ e ∷ rs
+beyond_left d [] e rs t = cond-true _ _ _ t
+beyond_left d (x ∷ ls) e rs t =
+    ap (λ l. cond (is_before d x) ((x ∷ ls) ++ e ∷ rs) l) (beyond_left d ls e rs t) ∙ spread (is_before d x) (x ∷ ls) (beyond d ls) (e ∷ rs)
+
+-- one is not before the member: what is behind it stands on the right
+pub until_right : (d : Due) (ls : List Due) (e : Due) (rs : List Due) → is_before d e ≡ false → are_in_order (ls ++ e ∷ rs) ≡ true
+    → until d (ls ++ e ∷ rs) ≡ ls ++ e ∷ until d rs
+until_right d [] e rs f h = cond-false _ _ _ f
+until_right d (x ∷ ls) e rs f h =
+    cond-false _ _ _ (past d x ls e rs f h) ∙ ap (λ l. x ∷ l) (until_right d ls e rs f (later x ls e rs h))
+
+pub beyond_right : (d : Due) (ls : List Due) (e : Due) (rs : List Due) → is_before d e ≡ false → are_in_order (ls ++ e ∷ rs) ≡ true
+    → beyond d (ls ++ e ∷ rs) ≡ beyond d rs
+beyond_right d [] e rs f h = cond-false _ _ _ f
+beyond_right d (x ∷ ls) e rs f h = cond-false _ _ _ (past d x ls e rs f h) ∙ beyond_right d ls e rs f (later x ls e rs h)
+
+pub insert_left : (d : Due) (ls : List Due) (e : Due) (rs : List Due) → is_before d e ≡ true → inserted d (ls ++ e ∷ rs) ≡ inserted d ls ++ e ∷ rs
+insert_left d [] e rs t = cond-true _ _ _ t
+insert_left d (x ∷ ls) e rs t =
+    ap (λ l. cond (is_before d x) (d ∷ (x ∷ ls) ++ e ∷ rs) (x ∷ l)) (insert_left d ls e rs t) ∙ spread (is_before d x) (d ∷ x ∷ ls) (x ∷ inserted d ls) (e ∷ rs)
+
+pub insert_right : (d : Due) (ls : List Due) (e : Due) (rs : List Due) → is_before d e ≡ false → are_in_order (ls ++ e ∷ rs) ≡ true
+    → inserted d (ls ++ e ∷ rs) ≡ ls ++ e ∷ inserted d rs
+insert_right d [] e rs f h = cond-false _ _ _ f
+insert_right d (x ∷ ls) e rs f h =
+    cond-false _ _ _ (past d x ls e rs f h) ∙ ap (λ l. x ∷ l) (insert_right d ls e rs f (later x ls e rs h))
+
+-- one more in its place
+pub between : (d : Due) (xs : List Due) → inserted d xs ≡ until d xs ++ d ∷ beyond d xs
+between d [] = refl
+between d (x ∷ xs) = elim (cases_Bool (is_before d x)) [
+      inl t ↦ cond-true _ _ _ t ∙ sym (ap (λ l. l ++ d ∷ beyond d (x ∷ xs)) (cond-true _ _ _ t) ∙ ap (λ l. d ∷ l) (cond-true _ _ _ t))
+    | inr f ↦
+        cond-false _ _ _ f ∙ ap (λ l. x ∷ l) (between d xs)
+        ∙ sym (ap (λ l. l ++ d ∷ beyond d (x ∷ xs)) (cond-false _ _ _ f) ∙ ap (λ l. (x ∷ until d xs) ++ d ∷ l) (cond-false _ _ _ f))
+    ]
+
+-- one is taken out
+kept_all : (p : Due → Bool) (xs : List Due) → list_all p xs ≡ true → filter p xs ≡ xs
+kept_all p [] h = refl
+kept_all p (x ∷ xs) h =
+    let parts = and_parts (p x) (list_all p xs) h in
+    cond-true _ _ _ parts.0 ∙ ap (λ l. x ∷ l) (kept_all p xs parts.1)
