@@ -1,12 +1,13 @@
 -- Lists of messages in order, and what the functions of a tree do with them.
 use Rattle.std.proofs.Common.{◌≡◌, ℕ, List, [], ◌∷◌, ◌++◌, Bool, true, false, ◌||◌, ◌&&◌, cond, refl, sym, ap, ◌∙◌, inl, inr}
 use Rattle.std.specs.List.{list_all, list_any, filter}
-use Rattle.std.proofs.lemmas.Bool.{cond-true, cond-false, and_parts, and_from, true≢false, cases_Bool}
+use Rattle.std.proofs.lemmas.Bool.{cond-true, cond-false, and_parts, and_from, true≢false, cases_Bool, or_left, or_right, or_from}
 use Rattle.std.proofs.lemmas.List.Folds.{list_all-append}
+use Rattle.std.proofs.lemmas.List.Elements.{filter-append}
 use Rattle.scheduled_queue.specs.declared.due.Due.{Due}
 use Rattle.scheduled_queue.specs.Dues.{is_before, are_in_order, inserted}
 use Rattle.scheduled_queue.specs.inside.Tree.{until, beyond, without_due}
-use Rattle.scheduled_queue.proofs.Order.{before_trans, before_turned, before_behind}
+use Rattle.scheduled_queue.proofs.Order.{before_trans, before_turned, before_behind, reaches, reached}
 
 -- a list in order, about one of its members
 pub record About (ls : List Due) (e : Due) (rs : List Due) : Type 0 where
@@ -93,3 +94,56 @@ kept_all p [] h = refl
 kept_all p (x ∷ xs) h =
     let parts = and_parts (p x) (list_all p xs) h in
     cond-true _ _ _ parts.0 ∙ ap (λ l. x ∷ l) (kept_all p xs parts.1)
+
+-- the test by which a member stays when one is taken out
+abbrev stays : Due → Due → Bool
+stays d e = is_before d e || is_before e d
+
+-- a test that holds where another does holds of all where the other does
+all_since : (p q : Due → Bool) → ((x : Due) → p x ≡ true → q x ≡ true) → (xs : List Due) → list_all p xs ≡ true → list_all q xs ≡ true
+all_since p q since [] h = refl
+all_since p q since (x ∷ xs) h =
+    let parts = and_parts (p x) (list_all p xs) h in
+    and_from (q x) (list_all q xs) (since x parts.0) (all_since p q since xs parts.1)
+
+-- the members behind one stay if the one is not before it, and the members before one if the one is not behind it
+behind_stay : (d e : Due) (rs : List Due) → is_before e d ≡ false → list_all (is_before e) rs ≡ true → without_due d rs ≡ rs
+behind_stay d e rs f h =
+    kept_all (stays d) rs (all_since (is_before e) (stays d) (λ x t. or_left (is_before d x) (is_before x d) (reaches d e x f t)) rs h)
+
+before_stay : (d e : Due) (ls : List Due) → is_before d e ≡ false → list_all (λ x. is_before x e) ls ≡ true → without_due d ls ≡ ls
+before_stay d e ls f h =
+    kept_all (stays d) ls (all_since (λ x. is_before x e) (stays d) (λ x t. or_right (is_before d x) (is_before x d) (reached x e d t f)) ls h)
+
+at_node : (d : Due) (ls : List Due) (e : Due) (rs : List Due) → stays d e ≡ true → without_due d (ls ++ e ∷ rs) ≡ without_due d ls ++ e ∷ without_due d rs
+at_node d ls e rs h = filter-append (stays d) ls (e ∷ rs) ∙ ap (λ l. without_due d ls ++ l) (cond-true _ _ _ h)
+
+pub remove_left : (d : Due) (ls : List Due) (e : Due) (rs : List Due) → is_before d e ≡ true → are_in_order (ls ++ e ∷ rs) ≡ true
+    → without_due d (ls ++ e ∷ rs) ≡ without_due d ls ++ e ∷ rs
+remove_left d ls e rs t h =
+    at_node d ls e rs (or_left (is_before d e) (is_before e d) t)
+    ∙ ap (λ l. without_due d ls ++ e ∷ l) (behind_stay d e rs (before_turned d e t) (about ls e rs h).behind)
+
+pub remove_right : (d : Due) (ls : List Due) (e : Due) (rs : List Due) → is_before e d ≡ true → are_in_order (ls ++ e ∷ rs) ≡ true
+    → without_due d (ls ++ e ∷ rs) ≡ ls ++ e ∷ without_due d rs
+remove_right d ls e rs t h =
+    at_node d ls e rs (or_right (is_before d e) (is_before e d) t)
+    ∙ ap (λ l. l ++ e ∷ without_due d rs) (before_stay d e ls (before_turned e d t) (about ls e rs h).before)
+
+pub remove_here : (d : Due) (ls : List Due) (e : Due) (rs : List Due) → is_before d e ≡ false → is_before e d ≡ false → are_in_order (ls ++ e ∷ rs) ≡ true
+    → without_due d (ls ++ e ∷ rs) ≡ ls ++ rs
+remove_here d ls e rs f g h =
+    let here = about ls e rs h in
+    filter-append (stays d) ls (e ∷ rs)
+    ∙ ap (λ l. l ++ without_due d (e ∷ rs)) (before_stay d e ls f here.before)
+    ∙ ap (λ l. ls ++ l) (cond-false _ _ _ (or_from (is_before d e) (is_before e d) f g) ∙ behind_stay d e rs g here.behind)
+
+-- the parts of a list in order are in order
+pub left_in_order : (ls : List Due) (e : Due) (rs : List Due) → are_in_order (ls ++ e ∷ rs) ≡ true → are_in_order ls ≡ true
+left_in_order ls e rs h = (about ls e rs h).left
+
+pub right_in_order : (ls : List Due) (e : Due) (rs : List Due) → are_in_order (ls ++ e ∷ rs) ≡ true → are_in_order rs ≡ true
+right_in_order ls e rs h = (about ls e rs h).right
+
+-- what the functions of a tree cite
+pub ruleset at_a_node = (left_in_order, right_in_order, until_left, beyond_left, until_right, beyond_right, insert_left, insert_right, remove_left, remove_right, remove_here, between)

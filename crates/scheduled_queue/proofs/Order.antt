@@ -80,3 +80,16 @@ same_place a b p q = tied a b (reads_not a b p) (reads_not b a q)
 
 pub one_way : (a b : Due) → is_before a b ≡ false → (a.number ≡ b.number → ⊥) → is_before b a ≡ true
 one_way a b p ne = writes b a (other_way a b (reads_not a b p) ne)
+
+reach : (d e x : Due) → NotBefore e d → Before e x → Before d x
+reach d e x p q = grind arith
+
+-- what is behind one is behind all that are not behind this one
+pub reaches : (d e x : Due) → is_before e d ≡ false → is_before e x ≡ true → is_before d x ≡ true
+reaches d e x f t = writes d x (reach d e x (reads_not e d f) (reads e x t))
+
+reach_back : (x e d : Due) → Before x e → NotBefore d e → Before x d
+reach_back x e d p q = grind arith
+
+pub reached : (x e d : Due) → is_before x e ≡ true → is_before d e ≡ false → is_before x d ≡ true
+reached x e d t f = writes x d (reach_back x e d (reads x e t) (reads_not d e f))

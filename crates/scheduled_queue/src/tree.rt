@@ -9,6 +9,7 @@ ghost use Rattle.scheduled_queue.specs.inside.Tree.{in_order, until, beyond, wit
 
 use crate::due::Due;
 use std::marker::Model;
+use std::mem;
 
 /// A tree, or none where it has no member.
 pub(crate) type Tree = Option<Box<Node>>;
@@ -57,6 +58,7 @@ fn priority_of(number: u32) -> u32 {
 }
 
 /// The members up to this one, and those behind it.
+#[tactic(auto, using(crate::proofs::Lists::at_a_node))]
 fn split(tree: Tree, member: Due) -> (Tree, Tree)
     requires { are_in_order (in_order tree) ≡ true }
     ensures until { in_order result.0 ≡ until member (in_order tree) }
@@ -98,4 +100,93 @@ fn join(first: Tree, second: Tree) -> Tree
             }
         }
     }
+}
+
+/// One more member, in its place. `spare` is the box that it will stand in; what it holds is let go.
+pub(crate) fn insert(tree: &mut Tree, member: Due, spare: Box<Node>)
+    requires { are_in_order (in_order tree.old) ≡ true }
+    ensures { in_order tree.new ≡ inserted member (in_order tree.old) }
+{
+    plant(tree, member, priority_of(member.number), spare);
+}
+
+/// One more member, below all nodes whose priority is at least this.
+#[tactic(auto, using(crate::proofs::Lists::at_a_node))]
+fn plant(tree: &mut Tree, member: Due, priority: u32, mut spare: Box<Node>)
+    requires { are_in_order (in_order tree.old) ≡ true }
+    ensures { in_order tree.new ≡ inserted member (in_order tree.old) }
+{
+    match tree {
+        Some(root) if root.priority >= priority => {
+            let node = &mut **root;
+            if member.is_before(node.member) {
+                plant(&mut node.before, member, priority, spare);
+            } else {
+                plant(&mut node.behind, member, priority, spare);
+            }
+        }
+        _ => {
+            let (before, behind) = split(tree.take(), member);
+            *spare = Node {
+                member,
+                priority,
+                before,
+                behind,
+            };
+            *tree = Some(spare);
+        }
+    }
+}
+
+/// Takes a member out, and gives the box that it stood in.
+#[tactic(auto, using(crate::proofs::Lists::at_a_node))]
+pub(crate) fn remove(tree: &mut Tree, member: Due) -> Tree
+    requires { are_in_order (in_order tree.old) ≡ true }
+    ensures { in_order tree.new ≡ without_due member (in_order tree.old) }
+{
+    match tree {
+        None => None,
+        Some(root) => {
+            let node = &mut **root;
+            if member.is_before(node.member) {
+                remove(&mut node.before, member)
+            } else if node.member.is_before(member) {
+                remove(&mut node.behind, member)
+            } else {
+                let rest = join(node.before.take(), node.behind.take());
+                mem::replace(tree, rest)
+            }
+        }
+    }
+}
+
+/// The first member.
+pub(crate) fn first(tree: &Tree) -> Option<Due>
+    ensures { result ≡ slice_get (in_order tree.now) 0 }
+{
+    let mut first = None;
+    let mut rest = tree;
+    while let Some(node) = rest {
+        first = Some(node.member);
+        rest = &node.before;
+    }
+    first
+}
+
+/// The first moment after this one that a member is due at.
+pub(crate) fn next_after(tree: &Tree, t: u64) -> Option<u64>
+    requires { are_in_order (in_order tree.now) ≡ true }
+    ensures { result ≡ option_map (λ d. d.due) (find (λ d. nat_lt t d.due) (in_order tree.now)) }
+{
+    let mut next = None;
+    let mut rest = tree;
+    while let Some(node) = rest {
+        if t < node.member.due {
+            next = Some(node.member.due);
+            rest = &node.before;
+        } else {
+            rest = &node.behind;
+        }
+    }
+    next
 }
