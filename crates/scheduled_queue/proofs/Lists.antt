@@ -1,13 +1,14 @@
 -- Lists of messages in order, and what the functions of a tree do with them.
-use Rattle.std.proofs.Common.{◌≡◌, ℕ, List, [], ◌∷◌, ◌++◌, Bool, true, false, ◌||◌, ◌&&◌, cond, refl, sym, ap, ◌∙◌, inl, inr}
-use Rattle.std.specs.List.{list_all, list_any, filter}
-use Rattle.std.proofs.lemmas.Bool.{cond-true, cond-false, and_parts, and_from, true≢false, cases_Bool, or_left, or_right, or_from}
-use Rattle.std.proofs.lemmas.List.Folds.{list_all-append}
+use Rattle.std.proofs.Common.{◌≡◌, ◌<◌, ◌≤◌, ℕ, Option, Some, None, nat_lt, arith, List, [], ◌∷◌, ◌++◌, Bool, true, false, ◌||◌, ◌&&◌, cond, refl, sym, ap, ◌∙◌, inl, inr}
+use Rattle.std.specs.List.{list_all, list_any, filter, find, slice_get}
+use Rattle.std.specs.Option.{option_or, option_map}
+use Rattle.std.proofs.lemmas.Bool.{cond-true, cond-false, and_parts, and_from, true≢false, cases_Bool, or_left, or_right, or_from, lt-ltb, le-ltb}
+use Rattle.std.proofs.lemmas.List.Folds.{list_all-append, find-append}
 use Rattle.std.proofs.lemmas.List.Elements.{filter-append}
 use Rattle.scheduled_queue.specs.declared.due.Due.{Due}
 use Rattle.scheduled_queue.specs.Dues.{is_before, are_in_order, inserted}
-use Rattle.scheduled_queue.specs.inside.Tree.{until, beyond, without_due}
-use Rattle.scheduled_queue.proofs.Order.{before_trans, before_turned, before_behind, reaches, reached}
+use Rattle.scheduled_queue.specs.inside.Parts.{until, beyond, without_due, next_after}
+use Rattle.scheduled_queue.proofs.Order.{before_trans, before_turned, before_behind, before_due, reaches, reached}
 
 -- a list in order, about one of its members
 pub record About (ls : List Due) (e : Due) (rs : List Due) : Type 0 where
@@ -138,6 +139,39 @@ remove_here d ls e rs f g h =
     ∙ ap (λ l. l ++ without_due d (e ∷ rs)) (before_stay d e ls f here.before)
     ∙ ap (λ l. ls ++ l) (cond-false _ _ _ (or_from (is_before d e) (is_before e d) f g) ∙ behind_stay d e rs g here.behind)
 
+-- what stands first, and what comes next after a moment
+pub first_left : (ls : List Due) (e : Due) (rs : List Due) (o : Option Due) → option_or (slice_get (ls ++ e ∷ rs) 0) o ≡ option_or (slice_get ls 0) (Some e)
+first_left [] e rs o = refl
+first_left (x ∷ ls) e rs o = refl
+
+none_late : (t : ℕ) (e : Due) (ls : List Due) → e.due ≤ t → list_all (λ d. is_before d e) ls ≡ true → find (λ d. nat_lt t d.due) ls ≡ None
+none_late t e [] le h = refl
+none_late t e (x ∷ ls) le h =
+    let parts = and_parts (is_before x e) (list_all (λ d. is_before d e) ls) h in
+    let no : nat_lt t x.due ≡ false = le-ltb t x.due (omega (arith, le, before_due x e parts.0)) in
+    cond-false _ _ _ no ∙ none_late t e ls le parts.1
+
+pub next_left : (t : ℕ) (ls : List Due) (e : Due) (rs : List Due) (o : Option ℕ) → t < e.due
+    → option_or (next_after t (ls ++ e ∷ rs)) o ≡ option_or (next_after t ls) (Some e.due)
+next_left t [] e rs o lt = ap (λ f. option_or (option_map (λ d. d.due) f) o) (cond-true _ _ _ (lt-ltb t e.due lt))
+next_left t (x ∷ ls) e rs o lt = elim (cases_Bool (nat_lt t x.due)) [
+      inl p ↦
+        ap (λ f. option_or (option_map (λ d. d.due) f) o) (cond-true _ _ _ p)
+        ∙ sym (ap (λ f. option_or (option_map (λ d. d.due) f) (Some e.due)) (cond-true _ _ _ p))
+    | inr p ↦
+        ap (λ f. option_or (option_map (λ d. d.due) f) o) (cond-false _ _ _ p)
+        ∙ next_left t ls e rs o lt
+        ∙ sym (ap (λ f. option_or (option_map (λ d. d.due) f) (Some e.due)) (cond-false _ _ _ p))
+    ]
+
+pub next_right : (t : ℕ) (ls : List Due) (e : Due) (rs : List Due) → e.due ≤ t → are_in_order (ls ++ e ∷ rs) ≡ true
+    → next_after t (ls ++ e ∷ rs) ≡ next_after t rs
+next_right t ls e rs le h =
+    ap (option_map (λ d. d.due))
+    (find-append (λ d. nat_lt t d.due) ls (e ∷ rs)
+    ∙ ap (λ f. option_or f (find (λ d. nat_lt t d.due) (e ∷ rs))) (none_late t e ls le (about ls e rs h).before)
+    ∙ cond-false _ _ _ (le-ltb t e.due le))
+
 -- the parts of a list in order are in order
 pub left_in_order : (ls : List Due) (e : Due) (rs : List Due) → are_in_order (ls ++ e ∷ rs) ≡ true → are_in_order ls ≡ true
 left_in_order ls e rs h = (about ls e rs h).left
@@ -146,4 +180,4 @@ pub right_in_order : (ls : List Due) (e : Due) (rs : List Due) → are_in_order 
 right_in_order ls e rs h = (about ls e rs h).right
 
 -- what the functions of a tree cite
-pub ruleset at_a_node = (left_in_order, right_in_order, until_left, beyond_left, until_right, beyond_right, insert_left, insert_right, remove_left, remove_right, remove_here, between)
+pub ruleset at_a_node = (left_in_order, right_in_order, until_left, beyond_left, until_right, beyond_right, insert_left, insert_right, remove_left, remove_right, remove_here, between, first_left, next_left, next_right)

@@ -93,3 +93,10 @@ reach_back x e d p q = grind arith
 
 pub reached : (x e d : Due) → is_before x e ≡ true → is_before d e ≡ false → is_before x d ≡ true
 reached x e d t f = writes x d (reach_back x e d (reads x e t) (reads_not d e f))
+
+not_later : (a b : Due) → Before a b → a.due ≤ b.due
+not_later a b p = grind arith
+
+-- what is before another is due no later
+pub before_due : (a b : Due) → is_before a b ≡ true → a.due ≤ b.due
+before_due a b t = not_later a b (reads a b t)

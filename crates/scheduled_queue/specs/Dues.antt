@@ -22,6 +22,10 @@ abbrev pub are_distinct : List Due → Bool
 are_distinct [] = true
 are_distinct (d ∷ ds) = not (contains d.number ds) && are_distinct ds
 
+-- the moment that the message of this number is due at
+abbrev pub due_of : ℕ → List Due → Option ℕ
+due_of number members = option_map (λ d. d.due) (find (λ d. nat_eq d.number number) members)
+
 -- with one more, in its place
 abbrev pub inserted : Due → List Due → List Due
 inserted d [] = d ∷ []
@@ -38,3 +42,8 @@ first_due t members = option_map (λ d. d.number) (find (λ d. nat_le d.due (cla
 -- the first moment after this one that some message is due at
 abbrev pub next_due : ℕ → List Due → Option ℕ
 next_due t members = option_map (λ d. d.due) (find (λ d. nat_lt (clamped t) d.due) members)
+
+-- the messages that wait, in order, and how many more can be put without memory
+pub record Waiting : Type 0 where
+  pub members : List Due
+  pub spare : ℕ

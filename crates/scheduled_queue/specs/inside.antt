@@ -1,2 +1,2 @@
 -- What private functions and proofs cite. No public clause does.
-pub mod Tree
+pub mod Parts

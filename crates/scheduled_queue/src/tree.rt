@@ -3,9 +3,10 @@
 //!
 //! What is proved is the list of members from left to right. The priorities are for speed alone: whatever they are, the
 //! answers are the same.
-ghost use Rattle.std.specs.Prelude.{◌≡◌, ◌++◌, ◌↔◌, true, false, Some, None, IsSome, option_map, slice_get, find, nat_lt};
+ghost use Rattle.std.specs.Prelude.{◌≡◌, ◌++◌, true, slice_get};
 ghost use Rattle.scheduled_queue.specs.Dues.{are_in_order, inserted};
-ghost use Rattle.scheduled_queue.specs.inside.Tree.{in_order, until, beyond, without_due};
+ghost use Rattle.scheduled_queue.specs.Kept.{in_order};
+ghost use Rattle.scheduled_queue.specs.inside.Parts.{until, beyond, without_due, next_after};
 
 use crate::due::Due;
 use std::marker::Model;
@@ -26,7 +27,7 @@ pub(crate) struct Node {
 impl Model for Node {
     ghost use Rattle.std.specs.Prelude.{◌∷◌, ◌++◌, List, length};
     ghost use Rattle.scheduled_queue.specs.declared.due.Due.{Due};
-    ghost use Rattle.scheduled_queue.specs.inside.Tree.{in_order};
+    ghost use Rattle.scheduled_queue.specs.Kept.{in_order};
     ghost use Rattle.std.proofs.Common.{arith, length-append};
 
     ghost Value = { List Due };
@@ -161,6 +162,7 @@ pub(crate) fn remove(tree: &mut Tree, member: Due) -> Tree
 }
 
 /// The first member.
+#[tactic(auto, using(crate::proofs::Lists::at_a_node))]
 pub(crate) fn first(tree: &Tree) -> Option<Due>
     ensures { result ≡ slice_get (in_order tree.now) 0 }
 {
@@ -174,9 +176,10 @@ pub(crate) fn first(tree: &Tree) -> Option<Due>
 }
 
 /// The first moment after this one that a member is due at.
+#[tactic(auto, using(crate::proofs::Lists::at_a_node))]
 pub(crate) fn next_after(tree: &Tree, t: u64) -> Option<u64>
     requires { are_in_order (in_order tree.now) ≡ true }
-    ensures { result ≡ option_map (λ d. d.due) (find (λ d. nat_lt t d.due) (in_order tree.now)) }
+    ensures { result ≡ next_after t (in_order tree.now) }
 {
     let mut next = None;
     let mut rest = tree;

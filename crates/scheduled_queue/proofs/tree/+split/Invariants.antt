@@ -1,5 +1,5 @@
 use Rattle.std.proofs.Common.{length}
-use Rattle.scheduled_queue.specs.inside.Tree.{in_order}
+use Rattle.scheduled_queue.specs.Kept.{in_order}
 use Rattle.scheduled_queue.proofs.tree.+split.Given as goal
 
 abbrev pub decreases-split : goal.decreases-split
