@@ -90,7 +90,7 @@ between d (x ∷ xs) = elim (cases_Bool (is_before d x)) [
     ]
 
 -- one is taken out
-kept_all : (p : Due → Bool) (xs : List Due) → list_all p xs ≡ true → filter p xs ≡ xs
+pub kept_all : (p : Due → Bool) (xs : List Due) → list_all p xs ≡ true → filter p xs ≡ xs
 kept_all p [] h = refl
 kept_all p (x ∷ xs) h =
     let parts = and_parts (p x) (list_all p xs) h in
@@ -101,7 +101,7 @@ abbrev stays : Due → Due → Bool
 stays d e = is_before d e || is_before e d
 
 -- a test that holds where another does holds of all where the other does
-all_since : (p q : Due → Bool) → ((x : Due) → p x ≡ true → q x ≡ true) → (xs : List Due) → list_all p xs ≡ true → list_all q xs ≡ true
+pub all_since : (p q : Due → Bool) → ((x : Due) → p x ≡ true → q x ≡ true) → (xs : List Due) → list_all p xs ≡ true → list_all q xs ≡ true
 all_since p q since [] h = refl
 all_since p q since (x ∷ xs) h =
     let parts = and_parts (p x) (list_all p xs) h in

@@ -1,6 +1,6 @@
 -- The order in which messages come due.
 use Rattle.std.proofs.Common.{◌≡◌, ◌<◌, ◌≤◌, ◌⊎◌, ℕ, Bool, true, false, ◌||◌, ◌&&◌, nat_eq, nat_lt, refl, sym, ap, ◌∙◌, arith, inl, inr}
-use Rattle.std.proofs.lemmas.Bool.{ltb-true, ltb-false, eqb-true, eqb-false, lt-ltb, le-ltb, eq-eqb, or_cases, or_parts, or_left, or_right, and_parts, and_cases, and_from, true≢false, cases_order, cases_Bool}
+use Rattle.std.proofs.lemmas.Bool.{ltb-true, ltb-false, eqb-true, eqb-false, lt-ltb, le-ltb, eq-eqb, or_cases, or_parts, or_left, or_right, and_parts, and_cases, and_from, true≢false, cases_order, cases_Bool, or_from}
 use Rattle.scheduled_queue.specs.declared.due.Due.{Due}
 use Rattle.scheduled_queue.specs.Dues.{is_before}
 
@@ -100,3 +100,8 @@ not_later a b p = grind arith
 -- what is before another is due no later
 pub before_due : (a b : Due) → is_before a b ≡ true → a.due ≤ b.due
 before_due a b t = not_later a b (reads a b t)
+
+-- none is before another of its moment and number
+pub irreflexive_at : (a b : Due) → b.due ≡ a.due → b.number ≡ a.number → (is_before a b || is_before b a) ≡ false
+irreflexive_at a b due number =
+    or_from (is_before a b) (is_before b a) (not_back a b (inr (sym due, omega (arith, number)))) (not_back b a (inr (due, omega (arith, number))))

@@ -168,7 +168,8 @@ pub(crate) fn first(tree: &Tree) -> Option<Due>
 {
     let mut first = None;
     let mut rest = tree;
-    while let Some(node) = rest {
+    while let Some(root) = rest {
+        let node = &**root;
         first = Some(node.member);
         rest = &node.before;
     }
@@ -183,7 +184,8 @@ pub(crate) fn next_after(tree: &Tree, t: u64) -> Option<u64>
 {
     let mut next = None;
     let mut rest = tree;
-    while let Some(node) = rest {
+    while let Some(root) = rest {
+        let node = &**root;
         if t < node.member.due {
             next = Some(node.member.due);
             rest = &node.before;
