@@ -1,5 +1,5 @@
 -- What is kept of the members stays right when one is put and when one is taken out.
-use Rattle.std.proofs.Common.{◌≡◌, ◌<◌, ◌≤◌, ◌+◌, ℕ, List, [], ◌∷◌, Bool, true, false, ◌||◌, ◌&&◌, not, cond, nat_eq, nat_le, Option, Some, None, is_some, length, refl, sym, ap, ◌∙◌, arith, inl, inr}
+use Rattle.std.proofs.Common.{◌≡◌, ◌<◌, ◌≤◌, ◌+◌, ℕ, List, [], ◌∷◌, Bool, true, false, ◌||◌, ◌&&◌, not, cond, nat_eq, nat_le, Option, Some, None, Result, Ok, Err, IsOk, OnOk, IfOk, if◌then◌else◌, is_some, length, refl, sym, ap, ◌∙◌, arith, inl, inr}
 use Rattle.std.specs.List.{list_all, list_any, filter, find, slice_get}
 use Rattle.std.specs.Option.{option_map}
 use Rattle.std.proofs.lemmas.Bool.{cond-true, cond-false, and_parts, and_from, or_parts, or_from, or_left, or_right, not-true, not_from_false, not_from_true, true≢false, cases_Bool, eqb-true, eqb-false, eq-eqb, ne_eqb, le-leb, lt-leb}
@@ -194,7 +194,7 @@ due_without n k (x ∷ xs) = elim (cases_Bool (nat_eq x.number k)) [
         ∙ ap (λ o. cond (nat_eq k n) None o) (sym (due_at n x xs))
     ]
 
-without_absent : (k : ℕ) (xs : List Due) → contains k xs ≡ false → without k xs ≡ xs
+pub without_absent : (k : ℕ) (xs : List Due) → contains k xs ≡ false → without k xs ≡ xs
 without_absent k [] h = refl
 without_absent k (x ∷ xs) h =
     let parts = or_parts (nat_eq x.number k) (contains k xs) h in
@@ -272,6 +272,23 @@ module _ {S : Type 0} where
     knows = λ q. updates q ∙ ap (λ o. cond (nat_eq k q) None o) (is.knows q) ∙ sym (due_without q k xs);
     count = omega (arith, len, is.count, length_without k xs is.distinct has);
   }
+
+-- what the calls of the index say
+none_from : (o : Option ℕ) → is_some o ≡ false → o ≡ None
+none_from None e = refl
+none_from (Some x) e = absurd (true≢false e)
+
+pub at_ok : {T E P : Type 0} (r : Result T E) → IsOk r → OnOk r P → P
+at_ok (Ok x) is h = h
+at_ok (Err e) is h = absurd (true≢false (sym is))
+
+pub one_more : {E : Type 0} (r : Result (Option ℕ) E) (o : Option ℕ) (a b : ℕ) → IsOk r → IfOk r (λ x. x ≡ o)
+    → IfOk r (λ x. a ≡ b + (if is_some x then 0 else 1)) → is_some o ≡ false → a ≡ b + 1
+one_more (Ok x) o a b is same len none = len ∙ ap (λ y. b + (if is_some y then 0 else 1)) (same ∙ none_from o none)
+one_more (Err e) o a b is same len none = absurd (true≢false (sym is))
+
+pub one_less : (o : Option ℕ) (x a b : ℕ) → o ≡ Some x → a + (if is_some o then 1 else 0) ≡ b → a + 1 ≡ b
+one_less o x a b is len = ap (λ y. a + (if is_some y then 1 else 0)) (sym is) ∙ len
 
 -- which is due first
 none_early : (t : ℕ) (x : Due) (xs : List Due) → t < x.due → list_all (is_before x) xs ≡ true → find (λ d. nat_le d.due t) xs ≡ None

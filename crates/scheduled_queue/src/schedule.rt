@@ -86,9 +86,8 @@ impl Schedule {
         let Some(due) = self.dues.swap_remove(&number) else {
             return false;
         };
-        if let Some(spare) = tree::remove(&mut self.tree, Due { due, number }) {
-            self.spares.push_reserved(spare);
-        }
+        let removed = tree::remove(&mut self.tree, Due { due, number });
+        keep(&mut self.spares, removed);
         true
     }
 
@@ -141,4 +140,16 @@ fn fill(spares: &mut Vec<Box<Node>>, alloc: Global, count: usize) -> Result<(), 
         spares.push_reserved(Box::new(alloc, Node::blank())?);
     }
     Ok(())
+}
+
+/// Keeps the box of a member that left.
+fn keep(spares: &mut Vec<Box<Node>>, removed: Tree)
+    requires { vec_len spares.old < vec_capacity spares.old }
+    ensures room { vec_capacity spares.new ≡ vec_capacity spares.old }
+    ensures more { vec_len spares.old ≤ vec_len spares.new }
+    ensures within { vec_len spares.new ≤ vec_len spares.old + 1 }
+{
+    if let Some(spare) = removed {
+        spares.push_reserved(spare);
+    }
 }
