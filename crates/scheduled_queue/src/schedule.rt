@@ -94,7 +94,8 @@ impl Schedule {
     /// The number of the first message, by moment and then by number, where it is due at `t` or before. A `t` above
     /// `LAST_MOMENT` counts as that.
     pub fn first_due(&self, t: u64) -> Option<u32>
-        ensures { result ≡ first_due t self.now.members }
+        ensures first { result ≡ first_due t self.now.members }
+        ensures in_order { are_in_order self.now.members ≡ true }
     {
         let first = tree::first(&self.tree)?;
         if first.due <= t.min(LAST_MOMENT) {

@@ -1,8 +1,8 @@
-//! The members of a schedule in a treap, a search tree that stays flat by chance: each node has a priority that looks
-//! random, and stands above all nodes of lower priority.
+//! The members of a schedule in a treap, a search tree that stays flat by chance: each member has a priority that looks
+//! random, and stands above those of lower priority.
 //!
 //! What is proved is the list of members from left to right. The priorities are for speed alone: whatever they are, the
-//! answers are the same.
+//! answers are the same. No call here takes memory.
 ghost use Rattle.std.specs.Prelude.{◌≡◌, ◌++◌, true, slice_get};
 ghost use Rattle.scheduled_queue.specs.Dues.{are_in_order, inserted};
 ghost use Rattle.scheduled_queue.specs.Kept.{in_order};
@@ -19,7 +19,6 @@ pub(crate) type Tree = Option<Box<Node>>;
 #[derive(Drop)]
 pub(crate) struct Node {
     member: Due,
-    priority: u32,
     before: Tree,
     behind: Tree,
 }
@@ -44,15 +43,15 @@ impl Node {
     pub(crate) fn blank() -> Node {
         Node {
             member: Due { due: 0, number: 0 },
-            priority: 0,
             before: None,
             behind: None,
         }
     }
 }
 
-/// The number with its bits mixed: different numbers have different priorities (the last steps of MurmurHash3).
-fn priority_of(number: u32) -> u32 {
+/// A member's priority: its number with the bits mixed, so that no two have the same (the last steps of MurmurHash3).
+fn priority_of(member: Due) -> u32 {
+    let number = member.number;
     let mixed = (number ^ (number >> 16)).wrapping_mul(0x85eb_ca6b);
     let mixed = (mixed ^ (mixed >> 13)).wrapping_mul(0xc2b2_ae35);
     mixed ^ (mixed >> 16)
@@ -90,7 +89,7 @@ fn join(first: Tree, second: Tree) -> Tree
         (None, second) => second,
         (first, None) => first,
         (Some(mut first), Some(mut second)) => {
-            if first.priority > second.priority {
+            if priority_of(first.member) > priority_of(second.member) {
                 let node = &mut *first;
                 node.behind = join(node.behind.take(), Some(second));
                 Some(first)
@@ -108,7 +107,7 @@ pub(crate) fn insert(tree: &mut Tree, member: Due, spare: Box<Node>)
     requires { are_in_order (in_order tree.old) ≡ true }
     ensures { in_order tree.new ≡ inserted member (in_order tree.old) }
 {
-    plant(tree, member, priority_of(member.number), spare);
+    plant(tree, member, priority_of(member), spare);
 }
 
 /// One more member, below all nodes whose priority is at least this.
@@ -118,7 +117,7 @@ fn plant(tree: &mut Tree, member: Due, priority: u32, mut spare: Box<Node>)
     ensures { in_order tree.new ≡ inserted member (in_order tree.old) }
 {
     match tree {
-        Some(root) if root.priority >= priority => {
+        Some(root) if priority_of(root.member) >= priority => {
             let node = &mut **root;
             if member.is_before(node.member) {
                 plant(&mut node.before, member, priority, spare);
@@ -130,7 +129,6 @@ fn plant(tree: &mut Tree, member: Due, priority: u32, mut spare: Box<Node>)
             let (before, behind) = split(tree.take(), member);
             *spare = Node {
                 member,
-                priority,
                 before,
                 behind,
             };
