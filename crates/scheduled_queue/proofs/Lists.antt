@@ -1,14 +1,14 @@
 -- Lists of messages in order, and what the functions of a tree do with them.
-use Rattle.std.proofs.Common.{◌≡◌, ◌<◌, ◌≤◌, ℕ, Option, Some, None, nat_lt, arith, List, [], ◌∷◌, ◌++◌, Bool, true, false, ◌||◌, ◌&&◌, cond, refl, sym, ap, ◌∙◌, inl, inr}
-use Rattle.std.specs.List.{list_all, list_any, filter, find, slice_get}
+use Rattle.std.proofs.Common.{◌≡◌, ◌<◌, ◌≤◌, ℕ, Option, Some, None, nat_lt, arith, List, [], ◌∷◌, ◌++◌, Bool, true, false, ◌||◌, cond, refl, sym, ap, ◌∙◌, inl, inr}
+use Rattle.std.specs.List.{list_all, filter, find, slice_get}
 use Rattle.std.specs.Option.{option_or, option_map}
-use Rattle.std.proofs.lemmas.Bool.{cond-true, cond-false, and_parts, and_from, true≢false, cases_Bool, or_left, or_right, or_from, lt-ltb, le-ltb}
+use Rattle.std.proofs.lemmas.Bool.{cond-true, cond-false, and_parts, and_from, cases_Bool, or_left, or_right, or_from, lt-ltb, le-ltb}
 use Rattle.std.proofs.lemmas.List.Folds.{list_all-append, find-append}
 use Rattle.std.proofs.lemmas.List.Elements.{filter-append}
 use Rattle.scheduled_queue.specs.declared.due.Due.{Due}
 use Rattle.scheduled_queue.specs.Dues.{is_before, are_in_order, inserted}
 use Rattle.scheduled_queue.specs.inside.Parts.{until, beyond, without_due, next_after}
-use Rattle.scheduled_queue.proofs.Order.{before_trans, before_turned, before_behind, before_due, reaches, reached}
+use Rattle.scheduled_queue.proofs.Order.{before_turned, before_behind, before_due, reaches, reached}
 
 -- a list in order, about one of its members
 pub record About (ls : List Due) (e : Due) (rs : List Due) : Type 0 where
@@ -83,11 +83,11 @@ insert_right d (x ∷ ls) e rs f h =
 pub between : (d : Due) (xs : List Due) → inserted d xs ≡ until d xs ++ d ∷ beyond d xs
 between d [] = refl
 between d (x ∷ xs) = elim (cases_Bool (is_before d x)) [
-      inl t ↦ cond-true _ _ _ t ∙ sym (ap (λ l. l ++ d ∷ beyond d (x ∷ xs)) (cond-true _ _ _ t) ∙ ap (λ l. d ∷ l) (cond-true _ _ _ t))
-    | inr f ↦
-        cond-false _ _ _ f ∙ ap (λ l. x ∷ l) (between d xs)
-        ∙ sym (ap (λ l. l ++ d ∷ beyond d (x ∷ xs)) (cond-false _ _ _ f) ∙ ap (λ l. (x ∷ until d xs) ++ d ∷ l) (cond-false _ _ _ f))
-    ]
+  | inl t ↦ cond-true _ _ _ t ∙ sym (ap (λ l. l ++ d ∷ beyond d (x ∷ xs)) (cond-true _ _ _ t) ∙ ap (λ l. d ∷ l) (cond-true _ _ _ t))
+  | inr f ↦
+      cond-false _ _ _ f ∙ ap (λ l. x ∷ l) (between d xs)
+      ∙ sym (ap (λ l. l ++ d ∷ beyond d (x ∷ xs)) (cond-false _ _ _ f) ∙ ap (λ l. (x ∷ until d xs) ++ d ∷ l) (cond-false _ _ _ f))
+]
 
 -- one is taken out
 pub kept_all : (p : Due → Bool) (xs : List Due) → list_all p xs ≡ true → filter p xs ≡ xs
@@ -155,14 +155,14 @@ pub next_left : (t : ℕ) (ls : List Due) (e : Due) (rs : List Due) (o : Option 
     → option_or (next_after t (ls ++ e ∷ rs)) o ≡ option_or (next_after t ls) (Some e.due)
 next_left t [] e rs o lt = ap (λ f. option_or (option_map (λ d. d.due) f) o) (cond-true _ _ _ (lt-ltb t e.due lt))
 next_left t (x ∷ ls) e rs o lt = elim (cases_Bool (nat_lt t x.due)) [
-      inl p ↦
-        ap (λ f. option_or (option_map (λ d. d.due) f) o) (cond-true _ _ _ p)
-        ∙ sym (ap (λ f. option_or (option_map (λ d. d.due) f) (Some e.due)) (cond-true _ _ _ p))
-    | inr p ↦
-        ap (λ f. option_or (option_map (λ d. d.due) f) o) (cond-false _ _ _ p)
-        ∙ next_left t ls e rs o lt
-        ∙ sym (ap (λ f. option_or (option_map (λ d. d.due) f) (Some e.due)) (cond-false _ _ _ p))
-    ]
+  | inl p ↦
+      ap (λ f. option_or (option_map (λ d. d.due) f) o) (cond-true _ _ _ p)
+      ∙ sym (ap (λ f. option_or (option_map (λ d. d.due) f) (Some e.due)) (cond-true _ _ _ p))
+  | inr p ↦
+      ap (λ f. option_or (option_map (λ d. d.due) f) o) (cond-false _ _ _ p)
+      ∙ next_left t ls e rs o lt
+      ∙ sym (ap (λ f. option_or (option_map (λ d. d.due) f) (Some e.due)) (cond-false _ _ _ p))
+]
 
 pub next_right : (t : ℕ) (ls : List Due) (e : Due) (rs : List Due) → e.due ≤ t → are_in_order (ls ++ e ∷ rs) ≡ true
     → next_after t (ls ++ e ∷ rs) ≡ next_after t rs

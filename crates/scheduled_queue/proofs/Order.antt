@@ -1,6 +1,6 @@
 -- The order in which messages come due.
-use Rattle.std.proofs.Common.{◌≡◌, ◌<◌, ◌≤◌, ◌⊎◌, ℕ, Bool, true, false, ◌||◌, ◌&&◌, nat_eq, nat_lt, refl, sym, ap, ◌∙◌, arith, inl, inr}
-use Rattle.std.proofs.lemmas.Bool.{ltb-true, ltb-false, eqb-true, eqb-false, lt-ltb, le-ltb, eq-eqb, or_cases, or_parts, or_left, or_right, and_parts, and_cases, and_from, true≢false, cases_order, cases_Bool, or_from}
+use Rattle.std.proofs.Common.{◌≡◌, ◌<◌, ◌≤◌, ◌⊎◌, true, false, ◌||◌, ◌&&◌, nat_eq, nat_lt, sym, ◌∙◌, arith, inl, inr}
+use Rattle.std.proofs.lemmas.Bool.{ltb-true, ltb-false, eqb-true, eqb-false, lt-ltb, eq-eqb, or_cases, or_parts, or_left, or_right, and_parts, and_cases, and_from, true≢false, cases_order, cases_Bool, or_from}
 use Rattle.scheduled_queue.specs.declared.due.Due.{Due}
 use Rattle.scheduled_queue.specs.Dues.{is_before}
 
@@ -14,19 +14,19 @@ NotBefore a b = (b.due < a.due) ⊎ ((a.due ≡ b.due) × (b.number ≤ a.number
 pub reads : (a b : Due) → is_before a b ≡ true → Before a b
 reads a b e =
     elim (or_cases (nat_lt a.due b.due) (nat_eq a.due b.due && nat_lt a.number b.number) e) [
-      inl p ↦ inl (ltb-true a.due b.due p)
-    | inr p ↦
-        let q = and_parts (nat_eq a.due b.due) (nat_lt a.number b.number) p in
-        inr (eqb-true a.due b.due q.0, ltb-true a.number b.number q.1)
+      | inl p ↦ inl (ltb-true a.due b.due p)
+      | inr p ↦
+          let q = and_parts (nat_eq a.due b.due) (nat_lt a.number b.number) p in
+          inr (eqb-true a.due b.due q.0, ltb-true a.number b.number q.1)
     ]
 
 pub writes : (a b : Due) → Before a b → is_before a b ≡ true
 writes a b h =
     elim h [
-      inl p ↦ or_left (nat_lt a.due b.due) (nat_eq a.due b.due && nat_lt a.number b.number) (lt-ltb a.due b.due p)
-    | inr p ↦
-        or_right (nat_lt a.due b.due) (nat_eq a.due b.due && nat_lt a.number b.number)
-        (and_from (nat_eq a.due b.due) (nat_lt a.number b.number) (eq-eqb a.due b.due p.0) (lt-ltb a.number b.number p.1))
+      | inl p ↦ or_left (nat_lt a.due b.due) (nat_eq a.due b.due && nat_lt a.number b.number) (lt-ltb a.due b.due p)
+      | inr p ↦
+          or_right (nat_lt a.due b.due) (nat_eq a.due b.due && nat_lt a.number b.number)
+          (and_from (nat_eq a.due b.due) (nat_lt a.number b.number) (eq-eqb a.due b.due p.0) (lt-ltb a.number b.number p.1))
     ]
 
 pub reads_not : (a b : Due) → is_before a b ≡ false → NotBefore a b
@@ -34,16 +34,16 @@ reads_not a b e =
     let parts = or_parts (nat_lt a.due b.due) (nat_eq a.due b.due && nat_lt a.number b.number) e in
     let le : b.due ≤ a.due = ltb-false a.due b.due parts.0 in
     elim (and_cases (nat_eq a.due b.due) (nat_lt a.number b.number) parts.1) [
-      inl p ↦
-        elim (cases_order a.due b.due) [
-          inl q ↦ absurd (eqb-false a.due b.due p q)
-        | inr q ↦ inl (elim q [ inl r ↦ absurd (omega (arith, r, le)) | inr r ↦ r ])
-        ]
-    | inr p ↦
-        elim (cases_order a.due b.due) [
-          inl q ↦ inr (q, ltb-false a.number b.number p)
-        | inr q ↦ inl (elim q [ inl r ↦ absurd (omega (arith, r, le)) | inr r ↦ r ])
-        ]
+      | inl p ↦
+          elim (cases_order a.due b.due) [
+            | inl q ↦ absurd (eqb-false a.due b.due p q)
+            | inr q ↦ inl (elim q [ inl r ↦ absurd (omega (arith, r, le)) | inr r ↦ r ])
+          ]
+      | inr p ↦
+          elim (cases_order a.due b.due) [
+            | inl q ↦ inr (q, ltb-false a.number b.number p)
+            | inr q ↦ inl (elim q [ inl r ↦ absurd (omega (arith, r, le)) | inr r ↦ r ])
+          ]
     ]
 
 before_then : (a b c : Due) → Before a b → Before b c → Before a c

@@ -1,4 +1,4 @@
-use Rattle.std.proofs.Common.{◌≡◌, ◌<◌, ◌≤◌, ◌*◌, ◌^◌, ◌-◌, ℕ, Option, Some, None, min, arith, ap, sym, ◌∙◌, zero, suc, refl, inl, inr}
+use Rattle.std.proofs.Common.{◌≡◌, ◌<◌, ◌≤◌, ◌*◌, ◌^◌, ◌-◌, ℕ, Option, Some, None, min, arith, ap, ◌∙◌, zero, suc, inl, inr}
 use Rattle.std.proofs.lemmas.Bool.{cases_lt}
 use Rattle.std.specs.Option.{unwrap_or}
 use Rattle.policy_core.specs.Delays.{delay_after, at_most}
@@ -35,7 +35,7 @@ returns c =
     let settings = c.args.settings.now in
     let wait = c.saturating_mul-wait in
     let factor =
-        c.saturating_pow-factor.ensures ∙ ap (λ k. min (2 ^ k) (2 ^ 64 - 1)) c.saturating_sub.ensures in
+    c.saturating_pow-factor.ensures ∙ ap (λ k. min (2 ^ k) (2 ^ 64 - 1)) c.saturating_sub.ensures in
     let waits : min wait.result 9007199254740991 ≡ min (settings.retry_interval * 2 ^ (c.args.n - 1)) 9007199254740991 =
     ap (λ x. min x 9007199254740991) (wait.ensures ∙ ap (λ f. min (settings.retry_interval * f) (2 ^ 64 - 1)) factor)
     ∙ cut settings.retry_interval (2 ^ (c.args.n - 1)) in

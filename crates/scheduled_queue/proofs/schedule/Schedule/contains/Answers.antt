@@ -1,4 +1,4 @@
-use Rattle.std.proofs.Common.{◌≡◌, is_some, ap, ◌∙◌}
+use Rattle.std.proofs.Common.{is_some, ap, ◌∙◌}
 use Rattle.scheduled_queue.specs.Dues.{contains}
 use Rattle.scheduled_queue.specs.Kept.{in_order}
 use Rattle.scheduled_queue.proofs.KeptLemmas.{known}

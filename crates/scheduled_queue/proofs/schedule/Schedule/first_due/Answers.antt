@@ -1,4 +1,4 @@
-use Rattle.std.proofs.Common.{◌≡◌, sym, ap, ◌∙◌, arith}
+use Rattle.std.proofs.Common.{sym, ap, ◌∙◌, arith}
 use Rattle.scheduled_queue.specs.Dues.{first_due}
 use Rattle.scheduled_queue.specs.Kept.{in_order}
 use Rattle.scheduled_queue.proofs.KeptLemmas.{first_none, first_is, first_late}

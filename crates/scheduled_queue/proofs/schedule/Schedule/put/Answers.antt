@@ -1,4 +1,4 @@
-use Rattle.std.proofs.Common.{◌≡◌, ◌<◌, ◌≤◌, ◌+◌, false, min, vec_len, nat_eq, is_some, length, sym, ap, ◌∙◌, subst, arith}
+use Rattle.std.proofs.Common.{◌≡◌, ◌<◌, false, min, vec_len, nat_eq, is_some, length, sym, ap, ◌∙◌, subst, arith}
 use Rattle.std.specs.Option.{option_to_list}
 use Rattle.indexmap.specs.IndexMap.{get, index_map_len, spare}
 use Rattle.scheduled_queue.specs.declared.due.Due.{Due}
@@ -23,6 +23,7 @@ invariant_of-self c =
     let updates = at_ok c.insert-noted.result ok e.updates in
     let len = one_more c.insert-noted.result (get nat_eq inside.dues n) (index_map_len c.insert-noted.new.self) (index_map_len inside.dues) ok e.old e.len absent in
     let kept = kept_put inside.dues c.insert-noted.new.self member members is new updates.0 len in
-    let popped = ap (λ o. length (option_to_list o)) c.unwrap-spare.ensures in
-    (subst (λ l. IsKept c.insert-noted.new.self l) (sym c.insert.ensures) kept,
-    omega (arith, c.self.invariant.1, len, c.pop.ensures.len, popped, c.pop.ensures.capacity))
+    let popped = ap (λ o. length (option_to_list o)) c.unwrap-spare.ensures in (
+      subst (λ l. IsKept c.insert-noted.new.self l) (sym c.insert.ensures) kept,
+      omega (arith, c.self.invariant.1, len, c.pop.ensures.len, popped, c.pop.ensures.capacity),
+    )

@@ -1,5 +1,5 @@
-use Rattle.std.proofs.Common.{◌≡◌, ◌+◌, true, false, Some, None, nat_eq, is_some, sym, ap, ◌∙◌, subst, arith}
-use Rattle.indexmap.specs.IndexMap.{get, index_map_len}
+use Rattle.std.proofs.Common.{◌≡◌, true, false, is_some, sym, ap, ◌∙◌, subst, arith}
+use Rattle.indexmap.specs.IndexMap.{index_map_len}
 use Rattle.scheduled_queue.specs.declared.due.Due.{Due}
 use Rattle.scheduled_queue.specs.Dues.{contains, without}
 use Rattle.scheduled_queue.specs.Kept.{in_order, IsKept}
