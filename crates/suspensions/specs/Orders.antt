@@ -1,6 +1,6 @@
 -- The orders of an administrator that were given, and which of them are live (KumoMTA's manual, administrative suspensions and
 -- bounces).
-use Rattle.std.specs.Prelude.{ℕ, ◌+◌, ◌==◌, ◌&&◌, ◌++◌, ◌∷◌, [], List, Bool, true, false, not, Option, Some, None, option_map, if◌then◌else◌, find, filter, map, length, min}
+use Rattle.std.specs.Prelude.{⊤, ℕ, ◌+◌, ◌==◌, ◌&&◌, ◌++◌, ◌∷◌, [], List, Bool, true, false, not, Option, Some, None, option_map, if◌then◌else◌, find, filter, map, length, min}
 use Rattle.std.specs.List.{list_any}
 use Rattle.std.specs.Option.{option_map_or}
 use Rattle.queue_name.specs.QueueName.{Name}
@@ -56,6 +56,10 @@ next_end book t = least (map end_of_given (live book t))
 abbrev pub with_order : ℕ → Order → List Given → List Given
 with_order at order book = book ++ record { number = length book + 1; at = at; order = order; resumed = false } ∷ []
 
+-- an order that was taken back, if it has this number
+abbrev pub resumed_by : ℕ → Given → Given
+resumed_by number given = if given.number == number then record given { resumed = true } else given
+
 -- the order of this number was taken back
 abbrev pub with_resumed : ℕ → List Given → List Given
-with_resumed number book = map (λ given. if given.number == number then record given { resumed = true } else given) book
+with_resumed number book = map (resumed_by number) book

@@ -50,7 +50,7 @@ pub(crate) fn first_live(
     question: Question<'_>,
 ) -> Option<u32>
     requires { IsIndex book.now ends.now }
-    ensures { result ≡ option_map (λ given. given.number) (find (λ given. spec.is_met question given.order) (live book.now t)) }
+    ensures { result ≡ option_map (λ given. given.number) (find (λ given. spec.is_met question.entry given.order) (live book.now t)) }
 {
     let mut first = None;
     for ending in &ends[count_over(ends, t)..] {

@@ -18,7 +18,7 @@ pub(crate) enum Question<'a> {
 
 /// Whether the answer is yes.
 pub(crate) fn is_met(question: Question<'_>, order: &Order) -> bool
-    ensures { result ≡ spec.is_met question order.now }
+    ensures { result ≡ spec.is_met question.entry order.now }
 {
     match question {
         Question::Holds(name) => match order {
