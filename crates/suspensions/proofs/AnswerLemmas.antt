@@ -4,15 +4,16 @@ use Rattle.std.specs.List.{AllWithin, list_any}
 use Rattle.std.specs.Option.{option_map_or}
 use Rattle.std.specs.List.Sorted.{IsNonDecreasingBy}
 use Rattle.std.proofs.lemmas.Bool.{and_left, and_right, and_from, le-ltb, lt-ltb, cases_lt, cases_eq, cases_Bool, ne_eqb, eq-eqb}
-use Rattle.std.proofs.lemmas.List.{get_or_default, get_or-drop, get_or-take, length-drop, length-take, take-append-drop, take_more}
+use Rattle.std.proofs.lemmas.List.{get_or_default, get_or-drop, get_or-take, length-drop, length-take, take-append-drop, take_more, take_rest, take_all}
 use Rattle.std.proofs.lemmas.List.Elements.{filter_agree}
 use Rattle.std.proofs.lemmas.List.Folds.{list_any_at, list_any_none}
+use Rattle.std.proofs.lemmas.List.Sorted.{IsNonDecreasingBy-take, IsNonDecreasingBy-drop}
 use Rattle.std.proofs.lemmas.Option.{slice_get-get_or}
 use Rattle.suspensions.specs.declared.given.Given.{Given}
 use Rattle.suspensions.specs.declared.ends.Ending.{Ending}
 use Rattle.suspensions.specs.Orders.{is_live, live, least, next_end, has_live, end_of_given}
 use Rattle.suspensions.specs.Index.{rank, IsNumber, IsIndex, AreNumbered, stands, ending_of}
-use Rattle.suspensions.specs.inside.Least.{is_at, is_below, IsLeast, passes}
+use Rattle.suspensions.specs.inside.Least.{is_at, is_below, IsLeast, is_given, passes}
 use Rattle.suspensions.proofs.CountLemmas.{count_none, count_some, count_same, find-filter, any-filter}
 use Rattle.suspensions.proofs.LeastLemmas.{one_least, least_skip, least_take, least_turned, least_behind, least_is_least, first_is_least}
 use Rattle.suspensions.proofs.IndexLemmas.{ends_rise, index_numbers}
@@ -142,12 +143,42 @@ next_found p ends i d rises within none passes =
     and_right (p x) _ (le-ltb x.end e.end high))
     (cases_lt k i)))
 
--- whether an end passes
-pub passing : (t : ℕ) (test : Given → Bool) (book : List Given) (e : Ending) (g : Given) → t < e.end → slice_get book (e.number - 1) ≡ Some g
-    → passes t test book e ≡ (nat_le g.at t && test g)
-passing t test book e g later there =
-    ap (λ b. b && option_map_or (λ h. nat_le h.at t && test h) (slice_get book (e.number - 1)) false) (lt-ltb t e.end later)
-    ∙ ap (λ o. option_map_or (λ h. nat_le h.at t && test h) o false) there
+-- the ends from a place on, as a loop goes over them
+abbrev pub rest : List Ending → ℕ → List Ending
+rest ends from = take (length ends - from) (drop from ends)
+
+-- whether an end there passes
+pub passing : (t : ℕ) (test : Given → Bool) (book : List Given) (ends : List Ending) (from i : ℕ) (d : Ending)
+    → AllWithin (λ e. t < e.end) ends from (length ends) → i < length (rest ends from)
+    → passes t test book (get_or (rest ends from) i d) ≡ is_given t test book (get_or (rest ends from) i d)
+passing t test book ends from i d later within =
+    let P : List Ending → Type 0 = λ es. i < length es → t < (get_or es i d).end in
+    let long = length-drop from ends in
+    let behind : P (drop from ends) = λ less. rw (get_or-drop from ends i d) (later (from + i) d (omega arith) (omega (arith, less, long))) in
+    let e = get_or (rest ends from) i d in
+    ap (λ b. b && is_given t test book e) (lt-ltb t e.end (subst P (sym (take_rest ends from)) behind within))
+
+-- at the end of the loop
+pub all_of_rest : (in_ends : Ending → ℕ) (p : Ending → Bool) (ends : List Ending) (from i : ℕ) (o : Option ℕ)
+    → length (rest ends from) ≤ i → IsLeast in_ends p (take i (rest ends from)) o → IsLeast in_ends p (drop from ends) o
+all_of_rest in_ends p ends from i o past is =
+    subst (λ es. IsLeast in_ends p es o) (take_all i (rest ends from) past ∙ take_rest ends from) is
+
+pub found_in_rest : (p : Ending → Bool) (ends : List Ending) (from i : ℕ) (d : Ending) → IsNonDecreasingBy (λ e. e.end) ends
+    → i < length (rest ends from) → AllWithin (λ e. p e ≡ false) (rest ends from) 0 i → p (get_or (rest ends from) i d) ≡ true
+    → IsLeast (λ e. e.end) p (drop from ends) (Some (get_or (rest ends from) i d).end)
+found_in_rest p ends from i d rises within none passes =
+    let o : Option ℕ = Some (get_or (rest ends from) i d).end in
+    subst (λ es. IsLeast (λ e. e.end) p es o) (take_rest ends from)
+    (next_found p (rest ends from) i d
+    (IsNonDecreasingBy-take (λ e. e.end) (length ends - from) (drop from ends) (IsNonDecreasingBy-drop (λ e. e.end) from ends rises))
+    within none passes)
+
+pub none_in_rest : (in_ends : Ending → ℕ) (p : Ending → Bool) (ends : List Ending) (from i : ℕ) → length (rest ends from) ≤ i
+    → AllWithin (λ e. p e ≡ false) (rest ends from) 0 i → IsLeast in_ends p (drop from ends) None
+none_in_rest in_ends p ends from i past none =
+    subst (λ es. count_by p es ≡ 0) (take_rest ends from)
+    (count_none p (rest ends from) (λ k d within. none k d (omega arith) (omega (arith, within, past))))
 
 -- whether the order of a number is live
 pub known_at : (t : ℕ) (book : List Given) (k : ℕ) (d : Given) → AreNumbered book → k < length book

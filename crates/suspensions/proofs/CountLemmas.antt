@@ -8,7 +8,7 @@ one_or_none : (b : Bool) → b ≡ false → cond b 1 0 ≤ 0
 one_or_none true is = absurd cc
 one_or_none false is = omega arith
 
-one : (b : Bool) → b ≡ true → cond b 1 0 ≡ 1
+one : (b : Bool) → b ≡ true → ◌≡◌ {A = ℕ} (cond b 1 0) 1
 one true is = refl
 one false is = absurd cc
 
@@ -19,6 +19,12 @@ one_wider true b wider = let is = one b (wider refl) in omega (arith, is)
 module _ {X : Type 0} where
   pub count_cons : (p : X → Bool) (x : X) (xs : List X) → count_by p (x ∷ xs) ≡ cond (p x) 1 0 + count_by p xs
   count_cons p x xs = sum_by-cons (λ y. cond (p y) 1 0) x xs
+
+  pub count_skip : (p : X → Bool) (x : X) (xs : List X) → p x ≡ false → count_by p (x ∷ xs) ≡ count_by p xs
+  count_skip p x xs fails =
+      let first = count_cons p x xs in
+      let none = one_or_none (p x) fails in
+      omega (arith, first, none)
 
   -- where no element passes
   pub count_none : (p : X → Bool) (xs : List X) → All (λ x. p x ≡ false) xs → count_by p xs ≡ 0

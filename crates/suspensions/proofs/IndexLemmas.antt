@@ -56,10 +56,11 @@ parted ends e ordered numbers held i j d le within before =
     let rises = ordered i j d le within in
     before_by_rank e (get_or ends i d) (number_at ends e numbers held) (omega (arith, less, rises))
 
+abbrev ending : ℕ → ℕ → Ending
+ending end number = record { end = end; number = number }
+
 same_ending : (x e : Ending) → x.end ≡ e.end → x.number ≡ e.number → x ≡ e
-same_ending x e ends numbers =
-    let first : x ≡ record { end = e.end; number = x.number } = ap (λ (n : ℕ). (record { end = n; number = x.number } : Ending)) ends in
-    first ∙ ap (λ (n : ℕ). (record { end = e.end; number = n } : Ending)) numbers
+same_ending x e ends numbers = ap (λ n. ending n x.number) ends ∙ ap (ending e.end) numbers
 
 same_rank : (x e : Ending) → IsNumber x → IsNumber e → rank x ≡ rank e → x ≡ e
 same_rank x e first second same =
@@ -199,8 +200,8 @@ taken book ends k i g e within read standing less here same is =
               sum_by-remove (λ x. cond (test x) 1 0) ends i e less in
           let second : count_by (stands test) (set book k over) + cond (stands test (get_or book k g)) 1 0 ≡ count_by (stands test) book + 0 =
               sum_by-set (λ x. cond (stands test x) 1 0) book k over g within in
-          let one : cond (test (get_or ends i e)) 1 0 ≡ cond (test (ending_of g)) 1 0 = ap (λ x. cond (test x) 1 0) (here ∙ same) in
-          let other : cond (stands test (get_or book k g)) 1 0 ≡ cond (test (ending_of g)) 1 0 =
+          let one : ◌≡◌ {A = ℕ} (cond (test (get_or ends i e)) 1 0) (cond (test (ending_of g)) 1 0) = ap (λ x. cond (test x) 1 0) (here ∙ same) in
+          let other : ◌≡◌ {A = ℕ} (cond (stands test (get_or book k g)) 1 0) (cond (test (ending_of g)) 1 0) =
               ap (λ x. cond (stands test x) 1 0) read ∙ ap (λ b. cond b 1 0) (test_standing test g standing) in
           let all = is.counts test in
           omega (arith, first, second, one, other, all);

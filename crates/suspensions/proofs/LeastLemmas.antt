@@ -5,7 +5,7 @@ use Rattle.std.proofs.lemmas.Bool.{and_parts, and_from, and_right, and_left, eqb
 use Rattle.std.proofs.lemmas.List.Sums.{sum_by_push, sum_by-append}
 use Rattle.suspensions.specs.Orders.{least}
 use Rattle.suspensions.specs.inside.Least.{is_at, is_below, IsLeast}
-use Rattle.suspensions.proofs.CountLemmas.{count_cons, count_none, count_some, count_wider}
+use Rattle.suspensions.proofs.CountLemmas.{count_cons, count_skip, count_none, count_some, count_wider}
 
 module _ {X : Type 0} (number_of : X → ℕ) (test : X → Bool) where
   at_passes : (n : ℕ) (x : X) → is_at number_of test n x ≡ true → test x ≡ true
@@ -48,23 +48,19 @@ module _ {X : Type 0} (number_of : X → ℕ) (test : X → Bool) where
 
   -- an element more that does not pass
   pub least_skip : (x : X) (xs : List X) (o : Option ℕ) → test x ≡ false → IsLeast number_of test xs o → IsLeast number_of test (x ∷ xs) o
-  least_skip x xs None fails is = let first = count_cons test x xs in rw (first, fails) is
+  least_skip x xs None fails is = count_skip test x xs fails ∙ is
   least_skip x xs (Some n) fails is =
-      let at = count_cons (is_at number_of test n) x xs in
-      let below = count_cons (is_below number_of test n) x xs in
-      let not_at = and_left (test x) (number_of x == n) fails in
-      let not_below = and_left (test x) (nat_lt (number_of x) n) fails in
-      (rw (at, not_at) is.0, rw (below, not_below) is.1)
+      let at = count_skip (is_at number_of test n) x xs (and_left (test x) (number_of x == n) fails) in
+      let below = count_skip (is_below number_of test n) x xs (and_left (test x) (nat_lt (number_of x) n) fails) in
+      (omega (arith, at, is.0), below ∙ is.1)
 
   -- an element more that passes
   here : (x : X) (xs : List X) → test x ≡ true → 0 < count_by (is_at number_of test (number_of x)) (x ∷ xs)
   here x xs passes = count_some (is_at number_of test (number_of x)) (x ∷ xs) 0 x (omega arith) (and_from _ _ passes (eq-eqb (number_of x) (number_of x) refl))
 
   not_lower : (x : X) (xs : List X) (n : ℕ) → n ≤ number_of x → count_by (is_below number_of test n) (x ∷ xs) ≡ count_by (is_below number_of test n) xs
-  not_lower x xs n least =
-      let below = count_cons (is_below number_of test n) x xs in
-      let not_below = and_right (test x) (nat_lt (number_of x) n) (le-ltb (number_of x) n least) in
-      rw (below, not_below) refl
+  not_lower x xs n most =
+      count_skip (is_below number_of test n) x xs (and_right (test x) (nat_lt (number_of x) n) (le-ltb (number_of x) n most))
 
   pub least_take : (x : X) (xs : List X) (o : Option ℕ) → test x ≡ true → IsLeast number_of test xs o
       → IsLeast number_of test (x ∷ xs) (Some (option_map_or (min (number_of x)) o (number_of x)))

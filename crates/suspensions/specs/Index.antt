@@ -16,6 +16,10 @@ rank ending = ending.end * 4294967296 + ending.number
 abbrev pub IsNumber : Ending → Type 0
 IsNumber ending = (1 ≤ ending.number) × (ending.number < 2 ^ 32)
 
+-- an order has this number
+abbrev pub IsNumberIn : List Given → Ending → Type 0
+IsNumberIn book ending = (1 ≤ ending.number) × (ending.number ≤ length book)
+
 -- the order stands, and its end passes a test
 abbrev pub stands : (Ending → Bool) → Given → Bool
 stands test given = not given.resumed && test (ending_of given)
@@ -28,6 +32,6 @@ AreNumbered book = (k : ℕ) (d : Given) → k < length book → (slice_index_or
 pub record IsIndex (book : List Given) (ends : List Ending) : Type 0 where
   pub numbered : AreNumbered book
   pub few : length book < 2 ^ 32
-  pub within : All (λ ending. (1 ≤ ending.number) × (ending.number ≤ length book)) ends
+  pub within : All (IsNumberIn book) ends
   pub counts : (test : Ending → Bool) → count_by test ends ≡ count_by (stands test) book
   pub ordered : IsNonDecreasingBy rank ends

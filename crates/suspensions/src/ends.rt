@@ -1,11 +1,12 @@
 //! The ends of the orders that were not taken back, from the earliest to the latest, so that those that are live at a moment
 //! stand behind all that are over then.
-ghost use Rattle.std.specs.Prelude.{◌≡◌, ◌<◌, ◌≤◌, ◌-◌, false, min, is_some, Some, All, Contains, IfSome, length, find, option_map, slice_get};
+ghost use Rattle.std.specs.Prelude.{◌≡◌, ◌<◌, ◌≤◌, ◌-◌, true, false, min, is_some, Some, All, Contains, IfSome, length, find, option_map, slice_get};
 ghost use Rattle.std.specs.List.{AllWithin, HoldsAt};
 ghost use Rattle.std.specs.Option.{option_map_or};
 ghost use Rattle.std.specs.List.Sorted.{IsNonDecreasingBy};
 ghost use Rattle.suspensions.specs.Orders.{live, next_end, has_live};
-ghost use Rattle.suspensions.specs.Index.{IsIndex, AreNumbered, IsNumber, ending_of, rank};
+ghost use Rattle.suspensions.specs.Index.{IsIndex, AreNumbered, IsNumber, IsNumberIn, ending_of, rank};
+ghost use Rattle.suspensions.specs.inside.Least.{is_given};
 ghost use Rattle.suspensions.specs.inside.Question as spec;
 
 use crate::given::{Given, end_of};
@@ -54,12 +55,20 @@ pub(crate) fn first_live(
 {
     let mut first = None;
     for ending in &ends[count_over(ends, t)..] {
-        let given = &book[ending.number as usize - 1];
-        if given.at <= t && is_met(question, &given.order) {
+        if is_meant(book, *ending, t, question) {
             first = Some(lesser(first, ending.number));
         }
     }
     first
+}
+
+/// Whether the order of an end was given by a moment, and the answer is yes.
+fn is_meant(book: &[Given], ending: Ending, t: u64, question: Question<'_>) -> bool
+    requires { IsNumberIn book.now ending }
+    ensures { result ≡ is_given t (λ given. spec.is_met question.entry given.order) book.now ending }
+{
+    let given = &book[ending.number as usize - 1];
+    given.at <= t && is_met(question, &given.order)
 }
 
 /// The lesser of two numbers.
@@ -79,11 +88,19 @@ pub(crate) fn next_end(book: &[Given], ends: &[Ending], t: u64) -> Option<u64>
     ensures later { IfSome result (λ end. t < end) }
 {
     for ending in &ends[count_over(ends, t)..] {
-        if book[ending.number as usize - 1].at <= t {
+        if was_given(book, *ending, t) {
             return Some(ending.end);
         }
     }
     None
+}
+
+/// Whether the order of an end was given by a moment.
+fn was_given(book: &[Given], ending: Ending, t: u64) -> bool
+    requires { IsNumberIn book.now ending }
+    ensures { result ≡ is_given t (λ given. true) book.now ending }
+{
+    book[ending.number as usize - 1].at <= t
 }
 
 /// The end of the live order of a number, where there is one.

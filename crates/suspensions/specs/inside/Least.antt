@@ -19,7 +19,10 @@ module _ {X : Type 0} where
   IsLeast number_of test xs (Some n) =
       (0 < count_by (is_at number_of test n) xs) × (count_by (is_below number_of test n) xs ≡ 0)
 
--- the order of an end was given by then and passes a test, and its end is later
+-- the order of an end was given by then, and passes a test
+abbrev pub is_given : ℕ → (Given → Bool) → List Given → Ending → Bool
+is_given t test book ending = option_map_or (λ given. nat_le given.at t && test given) (slice_get book (ending.number - 1)) false
+
+-- and it ends later
 abbrev pub passes : ℕ → (Given → Bool) → List Given → Ending → Bool
-passes t test book ending =
-    nat_lt t ending.end && option_map_or (λ given. nat_le given.at t && test given) (slice_get book (ending.number - 1)) false
+passes t test book ending = nat_lt t ending.end && is_given t test book ending

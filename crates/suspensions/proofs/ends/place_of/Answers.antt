@@ -8,4 +8,5 @@ returns c =
     let ends = c.args.ends.now in
     let e = c.args.ending in
     let point = IsPartitionPoint-from_clause (comes_before e) ends c.partition_point.result c.partition_point.ensures.partitioned (parted ends e c.requires.ordered c.requires.numbers c.requires.held) (λ a r q k. search rules) in
-    first_from ends e c.partition_point.result c.requires.ordered c.requires.numbers c.requires.held point
+    let found = first_from ends e c.partition_point.result c.requires.ordered c.requires.numbers c.requires.held point in
+    record { bound = found.0; held = found.1 }
