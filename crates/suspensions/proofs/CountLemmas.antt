@@ -39,6 +39,19 @@ module _ {X : Type 0} where
       let here = one (p (get_or xs k d)) is in
       omega (arith, least, here)
 
+  found_at : (p : X → Bool) (x d : X) (xs : List X) (b : Bool) → p x ≡ b → 0 < cond b 1 0 + count_by p xs
+      → (0 < count_by p xs → (k : ℕ) × (k < length xs) × (p (get_or xs k d) ≡ true))
+      → (k : ℕ) × (k < length (x ∷ xs)) × (p (get_or (x ∷ xs) k d) ≡ true)
+  found_at p x d xs true is some later = (0, omega arith, is)
+  found_at p x d xs false is some later = let at = later (omega (arith, some)) in (suc at.0, omega (arith, at.1), at.2)
+
+  -- one passes where some are counted
+  pub count_found : (p : X → Bool) (xs : List X) (d : X) → 0 < count_by p xs → (k : ℕ) × (k < length xs) × (p (get_or xs k d) ≡ true)
+  count_found p [] d some = absurd (omega (arith, some))
+  count_found p (x ∷ xs) d some =
+      let first = count_cons p x xs in
+      found_at p x d xs (p x) refl (omega (arith, first, some)) (count_found p xs d)
+
   -- tests that agree at each element
   pub count_same : (p q : X → Bool) (xs : List X) → All (λ x. p x ≡ q x) xs → count_by p xs ≡ count_by q xs
   count_same p q [] same = refl

@@ -10,11 +10,13 @@ use Rattle.std.proofs.lemmas.List.Sums.{sum_by-insert, sum_by-remove, sum_by_pus
 use Rattle.std.proofs.lemmas.List.Sorted.{IsNonDecreasingBy-insert}
 use Rattle.std.proofs.lemmas.Option.{slice_get-get_or}
 use Rattle.policy_core.specs.declared.orders.Order.{Order}
+use Rattle.policy_core.specs.declared.orders.Order.TheVariants.{Resume}
 use Rattle.policy_core.specs.LiveOrders.{end_of, duration_of}
 use Rattle.suspensions.specs.declared.given.Given.{Given}
 use Rattle.suspensions.specs.declared.ends.Ending.{Ending}
 use Rattle.suspensions.specs.Orders.{with_order, with_resumed, resumed_by}
-use Rattle.suspensions.specs.Index.{rank, IsNumber, IsIndex, AreNumbered, stands, ending_of}
+use Rattle.suspensions.specs.Index.{rank, IsNumber, IsIndex, IsEndOf, AreNumbered, stands, ending_of}
+use Rattle.suspensions.proofs.CountLemmas.{count_some, count_found}
 
 -- ends rise with ranks
 pub end_rises : (e f : Ending) → IsNumber f → rank e ≤ rank f → e.end ≤ f.end
@@ -207,6 +209,22 @@ taken book ends k i g e within read standing less here same is =
           omega (arith, first, second, one, other, all);
       ordered = ordered_less ends i less is.ordered;
     }
+
+-- the end of an order that stands is in the index
+pub end_held : (book : List Given) (ends : List Ending) (number : ℕ) (e : Ending) → IsIndex book ends → IsEndOf book number e → Contains ends e
+end_held book ends number e is end =
+    let is_same : Ending → Bool = λ x. x.end == e.end && x.number == e.number in
+    let k = number - 1 in
+    let d = new_given 0 (Resume 0) 0 in
+    let g = get_or book k d in
+    let inside : k < length book = omega (arith, end.0, end.1) in
+    let same : is_same (ending_of g) ≡ true =
+        and_from _ _ (eq-eqb (ending_of g).end e.end (ap (λ x. x.end) (sym (end.2 d).1))) (eq-eqb (ending_of g).number e.number (ap (λ x. x.number) (sym (end.2 d).1))) in
+    let some : 0 < count_by (stands is_same) book = count_some (stands is_same) book k d inside (test_standing is_same g (end.2 d).0 ∙ same) in
+    let here = count_found is_same ends e (subst (λ n. 0 < n) (sym (is.counts is_same)) some) in
+    let x = get_or ends here.0 e in
+    let parts = and_parts (x.end == e.end) (x.number == e.number) here.2 in
+    (here.0, here.1, same_ending x e (eqb-true x.end e.end parts.0) (eqb-true x.number e.number parts.1))
 
 -- the order at a place is that of its number
 pub set_resumed : (book : List Given) (k : ℕ) (g : Given) → k < length book → get_or book k g ≡ g → AreNumbered book

@@ -1,5 +1,6 @@
 -- The ends of the orders that were not taken back, from the earliest to the latest.
-use Rattle.std.specs.Prelude.{◌≡◌, ◌<◌, ◌≤◌, ◌+◌, ◌*◌, ◌^◌, ℕ, List, Bool, not, ◌&&◌, All, count_by, length, slice_index_or}
+use Rattle.std.specs.Prelude.{◌≡◌, ◌<◌, ◌≤◌, ◌+◌, ◌-◌, ◌*◌, ◌^◌, ℕ, List, Bool, false, not, ◌&&◌, All, count_by, length, slice_index_or}
+use Rattle.std.specs.List.{HoldsAt}
 use Rattle.std.specs.List.Sorted.{IsNonDecreasingBy}
 use Rattle.suspensions.specs.declared.given.Given.{Given}
 use Rattle.suspensions.specs.declared.ends.Ending.{Ending}
@@ -35,3 +36,8 @@ pub record IsIndex (book : List Given) (ends : List Ending) : Type 0 where
   pub within : All (IsNumberIn book) ends
   pub counts : (test : Ending → Bool) → count_by test ends ≡ count_by (stands test) book
   pub ordered : IsNonDecreasingBy rank ends
+
+-- the end is that of the order of this number, which stands
+abbrev pub IsEndOf : List Given → ℕ → Ending → Type 0
+IsEndOf book number ending =
+    (1 ≤ number) × (number ≤ length book) × HoldsAt (λ given. (given.resumed ≡ false) × (ending ≡ ending_of given)) book (number - 1)

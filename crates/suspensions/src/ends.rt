@@ -1,11 +1,11 @@
 //! The ends of the orders that were not taken back, from the earliest to the latest, so that those that are live at a moment
 //! stand behind all that are over then.
 ghost use Rattle.std.specs.Prelude.{◌≡◌, ◌<◌, ◌≤◌, ◌-◌, true, false, min, is_some, Some, All, Contains, IfSome, length, find, option_map, slice_get};
-ghost use Rattle.std.specs.List.{AllWithin, HoldsAt};
+ghost use Rattle.std.specs.List.{AllWithin};
 ghost use Rattle.std.specs.Option.{option_map_or};
 ghost use Rattle.std.specs.List.Sorted.{IsNonDecreasingBy};
 ghost use Rattle.suspensions.specs.Orders.{live, next_end, has_live};
-ghost use Rattle.suspensions.specs.Index.{IsIndex, AreNumbered, IsNumber, IsNumberIn, ending_of, rank};
+ghost use Rattle.suspensions.specs.Index.{IsIndex, AreNumbered, IsNumber, IsNumberIn, IsEndOf, rank};
 ghost use Rattle.suspensions.specs.inside.Least.{is_given};
 ghost use Rattle.suspensions.specs.inside.Question as spec;
 
@@ -107,7 +107,7 @@ fn was_given(book: &[Given], ending: Ending, t: u64) -> bool
 pub(crate) fn live_end(book: &[Given], t: u64, number: u32) -> Option<Ending>
     requires { AreNumbered book.now }
     ensures known { is_some result ≡ has_live book.now t number }
-    ensures ending { IfSome result (λ ending. (0 < number) × HoldsAt (λ given. (given.resumed ≡ false) × (ending ≡ ending_of given)) book.now (number - 1) × (number ≤ length book.now)) }
+    ensures ending { IfSome result (IsEndOf book.now number) }
 {
     let index = (number as usize).checked_sub(1)?;
     let given = book.get(index)?;
