@@ -1,8 +1,9 @@
-use Rattle.std.proofs.Common.{◌≡◌, ◌∙◌, ℕ, true, false, Some, None, get_or, sym, below_more, arith}
+use Rattle.std.proofs.Common.{◌≡◌, ◌∙◌, ℕ, true, false, Some, None, get_or, sym, ap, arith}
+use Rattle.std.proofs.lemmas.List.{get_or_default}
 use Rattle.std.proofs.lemmas.List.Elements.{AllWithin-more}
 use Rattle.suspensions.specs.declared.given.Given.{Given}
 use Rattle.suspensions.specs.declared.ends.Ending.{Ending}
-use Rattle.suspensions.specs.inside.Least.{passes}
+use Rattle.suspensions.specs.inside.Least.{is_given, passes}
 use Rattle.suspensions.proofs.IndexLemmas.{ends_rise, index_numbers}
 use Rattle.suspensions.proofs.AnswerLemmas.{next_answer, found_in_rest, none_in_rest, passing, rest}
 use Rattle.suspensions.proofs.ends.next_end.Goals as goal
@@ -27,8 +28,12 @@ loop-ending-preserved c =
     let from = c.count_over.result in
     let i = c.loop-ending.ending-index in
     let test = λ (g : Given). true in
+    let within = c.loop-ending-test.true in
+    let none : Ending = record { end = 0; number = 0 } in
     AllWithin-more (λ e. passes c.args.t test book e ≡ false) (rest ends from) 0 i c.loop-ending.invariant
-    (λ d. ?)
+    (λ d.
+    passing c.args.t test book ends from i d c.count_over.ensures.later within
+    ∙ ap (is_given c.args.t test book) (get_or_default (rest ends from) i d none within) ∙ sym c.was_given.ensures ∙ c.if-was_given.false)
 
 pub returns-clause-next : goal.returns-clause-next
 returns-clause-next c =
