@@ -39,7 +39,7 @@ agrees t test book numbered k d within =
     let g = get_or book k d in
     let number : g.number ≡ k + 1 = numbered k d within in
     let there : slice_get book (g.number - 1) ≡ Some g =
-        ap (slice_get book) {x = g.number - 1} {y = k} (omega (arith, number)) ∙ slice_get-get_or book k d within in
+    ap (slice_get book) {x = g.number - 1} {y = k} (omega (arith, number)) ∙ slice_get-get_or book k d within in
     ap (λ o. not g.resumed && (nat_lt t (end_of_given g) && option_map_or (λ h. nat_le h.at t && test h) o false)) there
     ∙ shuffled (nat_le g.at t) (nat_lt t (end_of_given g)) g.resumed (test g)
 
@@ -53,17 +53,17 @@ index_least in_ends in_book same t test book ends (Some n) is least =
     let p = passes t test book in
     let q : Given → Bool = λ g. is_live t g && test g in
     let at : count_by (stands (is_at in_ends p n)) book ≡ count_by (is_at in_book q n) book =
-        count_same (stands (is_at in_ends p n)) (is_at in_book q n) book
-        (λ k d within.
-        let g = get_or book k d in
-        and_joined (not g.resumed) (p (ending_of g)) (in_ends (ending_of g) == n) (q g) (agrees t test book is.numbered k d within)
-        ∙ ap (λ m. q g && m == n) (same g)) in
+    count_same (stands (is_at in_ends p n)) (is_at in_book q n) book
+    (λ k d within.
+    let g = get_or book k d in
+    and_joined (not g.resumed) (p (ending_of g)) (in_ends (ending_of g) == n) (q g) (agrees t test book is.numbered k d within)
+    ∙ ap (λ m. q g && m == n) (same g)) in
     let below : count_by (stands (is_below in_ends p n)) book ≡ count_by (is_below in_book q n) book =
-        count_same (stands (is_below in_ends p n)) (is_below in_book q n) book
-        (λ k d within.
-        let g = get_or book k d in
-        and_joined (not g.resumed) (p (ending_of g)) (nat_lt (in_ends (ending_of g)) n) (q g) (agrees t test book is.numbered k d within)
-        ∙ ap (λ m. q g && nat_lt m n) (same g)) in
+    count_same (stands (is_below in_ends p n)) (is_below in_book q n) book
+    (λ k d within.
+    let g = get_or book k d in
+    and_joined (not g.resumed) (p (ending_of g)) (nat_lt (in_ends (ending_of g)) n) (q g) (agrees t test book is.numbered k d within)
+    ∙ ap (λ m. q g && nat_lt m n) (same g)) in
     let first = is.counts (is_at in_ends p n) in
     (omega (arith, at, first, least.0), sym below ∙ sym (is.counts (is_below in_ends p n)) ∙ least.1)
 
@@ -132,16 +132,17 @@ pub next_found : (p : Ending → Bool) (ends : List Ending) (i : ℕ) (d : Endin
     → AllWithin (λ e. p e ≡ false) ends 0 i → p (get_or ends i d) ≡ true
     → IsLeast (λ e. e.end) p ends (Some (get_or ends i d).end)
 next_found p ends i d rises within none passes =
-    let e = get_or ends i d in
-    (count_some (is_at (λ x. x.end) p e.end) ends i d within (and_from _ _ passes (eq-eqb e.end e.end refl)),
-    count_none (is_below (λ x. x.end) p e.end) ends
-    (λ k c less.
-    let x = get_or ends k c in
-    ⊎_elim (λ before. and_left (p x) _ (none k c (omega arith) before))
-    (λ behind.
-    let high : e.end ≤ x.end = rw (get_or_default ends i d c within) (rises i k c behind less) in
-    and_right (p x) _ (le-ltb x.end e.end high))
-    (cases_lt k i)))
+    let e = get_or ends i d in (
+      count_some (is_at (λ x. x.end) p e.end) ends i d within (and_from _ _ passes (eq-eqb e.end e.end refl)),
+      count_none (is_below (λ x. x.end) p e.end) ends
+          (λ k c less.
+          let x = get_or ends k c in
+          ⊎_elim (λ before. and_left (p x) _ (none k c (omega arith) before))
+          (λ behind.
+          let high : e.end ≤ x.end = rw (get_or_default ends i d c within) (rises i k c behind less) in
+          and_right (p x) _ (le-ltb x.end e.end high))
+          (cases_lt k i)),
+    )
 
 -- the ends from a place on, as a loop goes over them
 abbrev pub rest : List Ending → ℕ → List Ending

@@ -75,23 +75,23 @@ pub first_from : (ends : List Ending) (e : Ending) (i : ℕ) → IsNonDecreasing
 first_from ends e i ordered numbers held point =
     let number = number_at ends e numbers held in
     let behind : i ≤ held.0 =
-        ⊎_elim
-        (λ (ahead : held.0 < i).
-        let less = rank_by_before e (get_or ends held.0 e) (numbers held.0 e held.1) (point.0 held.0 e (omega arith) ahead) in
-        let same = ap rank held.2 in
-        absurd (omega (arith, less, same)))
-        (λ (behind : i ≤ held.0). behind)
-        (cases_lt held.0 i) in
+    ⊎_elim
+    (λ (ahead : held.0 < i).
+    let less = rank_by_before e (get_or ends held.0 e) (numbers held.0 e held.1) (point.0 held.0 e (omega arith) ahead) in
+    let same = ap rank held.2 in
+    absurd (omega (arith, less, same)))
+    (λ (behind : i ≤ held.0). behind)
+    (cases_lt held.0 i) in
     let within : i < length ends = omega (arith, behind, held.1) in
     let rises : rank (get_or ends i e) ≤ rank (get_or ends held.0 e) = ordered i held.0 e behind held.1 in
     let most : rank (get_or ends i e) ≤ rank e = omega (arith, rises, ap rank held.2) in
     let here : IsNumber (get_or ends i e) = numbers i e within in
     let least : rank e ≤ rank (get_or ends i e) =
-        ⊎_elim
-        (λ (less : rank (get_or ends i e) < rank e).
-        absurd (both_ways _ (point.1 i e (omega arith) within) (before_by_rank e (get_or ends i e) number less)))
-        (λ (least : rank e ≤ rank (get_or ends i e)). least)
-        (cases_lt (rank (get_or ends i e)) (rank e)) in
+    ⊎_elim
+    (λ (less : rank (get_or ends i e) < rank e).
+    absurd (both_ways _ (point.1 i e (omega arith) within) (before_by_rank e (get_or ends i e) number less)))
+    (λ (least : rank e ≤ rank (get_or ends i e)). least)
+    (cases_lt (rank (get_or ends i e)) (rank e)) in
     let same : get_or ends i e ≡ e = same_rank (get_or ends i e) e here number (omega (arith, most, least)) in
     (within, slice_get-get_or ends i e within ∙ ap Some same)
 
@@ -131,7 +131,7 @@ added book ends at order place e end number room bound over later is =
     let long = length_push book g in
     let Within : ℕ → Ending → Type 0 = λ n x. (1 ≤ x.number) × (x.number ≤ n) in
     let wider : All (Within (length (book ++ g ∷ []))) ends =
-        All-weaker (Within (length book)) (Within (length (book ++ g ∷ []))) (λ x range. (range.0, omega (arith, range.1, long))) ends is.within in
+    All-weaker (Within (length book)) (Within (length (book ++ g ∷ []))) (λ x range. (range.0, omega (arith, range.1, long))) ends is.within in
     record {
       numbered = numbered_more book g refl is.numbered;
       few = omega (arith, long, room);
@@ -191,20 +191,20 @@ taken book ends k i g e within read standing less here same is =
     let long = length-set book k over in
     let Within : ℕ → Ending → Type 0 = λ n x. (1 ≤ x.number) × (x.number ≤ n) in
     let kept : All (Within (length book)) (remove ends i) =
-        All-append (Within (length book)) (take i ends) (drop (suc i) ends) (All-take (Within (length book)) i ends is.within)
-        (All-drop (Within (length book)) (suc i) ends is.within) in
+    All-append (Within (length book)) (take i ends) (drop (suc i) ends) (All-take (Within (length book)) i ends is.within)
+    (All-drop (Within (length book)) (suc i) ends is.within) in
     record {
       numbered = numbered_set book k over within (ap (λ x. x.number) (sym read) ∙ is.numbered k g within) is.numbered;
       few = omega (arith, long, is.few);
       within = subst (λ n. All (Within n) (remove ends i)) (sym long) kept;
       counts = λ test.
           let first : count_by test (remove ends i) + cond (test (get_or ends i e)) 1 0 ≡ count_by test ends =
-              sum_by-remove (λ x. cond (test x) 1 0) ends i e less in
+          sum_by-remove (λ x. cond (test x) 1 0) ends i e less in
           let second : count_by (stands test) (set book k over) + cond (stands test (get_or book k g)) 1 0 ≡ count_by (stands test) book + 0 =
-              sum_by-set (λ x. cond (stands test x) 1 0) book k over g within in
+          sum_by-set (λ x. cond (stands test x) 1 0) book k over g within in
           let one : ◌≡◌ {A = ℕ} (cond (test (get_or ends i e)) 1 0) (cond (test (ending_of g)) 1 0) = ap (λ x. cond (test x) 1 0) (here ∙ same) in
           let other : ◌≡◌ {A = ℕ} (cond (stands test (get_or book k g)) 1 0) (cond (test (ending_of g)) 1 0) =
-              ap (λ x. cond (stands test x) 1 0) read ∙ ap (λ b. cond b 1 0) (test_standing test g standing) in
+          ap (λ x. cond (stands test x) 1 0) read ∙ ap (λ b. cond b 1 0) (test_standing test g standing) in
           let all = is.counts test in
           omega (arith, first, second, one, other, all);
       ordered = ordered_less ends i less is.ordered;
@@ -219,7 +219,7 @@ end_held book ends number e is end =
     let g = get_or book k d in
     let inside : k < length book = omega (arith, end.0, end.1) in
     let same : is_same (ending_of g) ≡ true =
-        and_from _ _ (eq-eqb (ending_of g).end e.end (ap (λ x. x.end) (sym (end.2 d).1))) (eq-eqb (ending_of g).number e.number (ap (λ x. x.number) (sym (end.2 d).1))) in
+    and_from _ _ (eq-eqb (ending_of g).end e.end (ap (λ x. x.end) (sym (end.2 d).1))) (eq-eqb (ending_of g).number e.number (ap (λ x. x.number) (sym (end.2 d).1))) in
     let some : 0 < count_by (stands is_same) book = count_some (stands is_same) book k d inside (test_standing is_same g (end.2 d).0 ∙ same) in
     let here = count_found is_same ends e (subst (λ n. 0 < n) (sym (is.counts is_same)) some) in
     let x = get_or ends here.0 e in

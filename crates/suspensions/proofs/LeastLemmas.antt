@@ -130,13 +130,14 @@ module _ {X : Type 0} (number_of : X → ℕ) (test : X → Bool) where
       → IsLeast number_of test xs (option_map number_of (find test xs))
       → IsLeast number_of test (x ∷ xs) (option_map number_of (cond b (Some x) (find test xs)))
   found from x xs true passes numbered is =
-      let first : number_of x ≡ from + 0 = numbered 0 x (omega arith) in
-      (here x xs passes,
-      count_none (is_below number_of test (number_of x)) (x ∷ xs)
-      (λ k d within.
-      let later : number_of (get_or (x ∷ xs) k d) ≡ from + k = numbered k d within in
-      and_right (test (get_or (x ∷ xs) k d)) (nat_lt (number_of (get_or (x ∷ xs) k d)) (number_of x))
-      (le-ltb (number_of (get_or (x ∷ xs) k d)) (number_of x) (omega (arith, first, later)))))
+      let first : number_of x ≡ from + 0 = numbered 0 x (omega arith) in (
+        here x xs passes,
+        count_none (is_below number_of test (number_of x)) (x ∷ xs)
+            (λ k d within.
+            let later : number_of (get_or (x ∷ xs) k d) ≡ from + k = numbered k d within in
+            and_right (test (get_or (x ∷ xs) k d)) (nat_lt (number_of (get_or (x ∷ xs) k d)) (number_of x))
+            (le-ltb (number_of (get_or (x ∷ xs) k d)) (number_of x) (omega (arith, first, later)))),
+      )
   found from x xs false fails numbered is = least_skip x xs (option_map number_of (find test xs)) fails is
 
   pub first_is_least : (from : ℕ) (xs : List X) → NumberedFrom from xs → IsLeast number_of test xs (option_map number_of (find test xs))

@@ -20,13 +20,13 @@ loop-ending-preserved c =
     let same = passing c.args.t test book ends from i d c.count_over.ensures.later within in
     let was = c.loop-ending.invariant in
     elim c.if-is_meant.branch [
-      then-is_meant w ↦
-        subst (λ o. IsLeast (λ e. e.number) p (take (i + 1) (rest ends from)) o)
-        (ap Some (sym w.lesser.ensures) ∙ sym w.first-is)
-        (first_more p (rest ends from) i d c.loop-ending.first within (same ∙ sym c.is_meant.ensures ∙ w.if-is_meant.true) was)
+      | then-is_meant w ↦
+          subst (λ o. IsLeast (λ e. e.number) p (take (i + 1) (rest ends from)) o)
+          (ap Some (sym w.lesser.ensures) ∙ sym w.first-is)
+          (first_more p (rest ends from) i d c.loop-ending.first within (same ∙ sym c.is_meant.ensures ∙ w.if-is_meant.true) was)
       | else-is_meant w ↦
-        subst (λ o. IsLeast (λ e. e.number) p (take (i + 1) (rest ends from)) o) (sym w.first-is)
-        (first_same p (rest ends from) i d c.loop-ending.first within (same ∙ sym c.is_meant.ensures ∙ w.if-is_meant.false) was)
+          subst (λ o. IsLeast (λ e. e.number) p (take (i + 1) (rest ends from)) o) (sym w.first-is)
+          (first_same p (rest ends from) i d c.loop-ending.first within (same ∙ sym c.is_meant.ensures ∙ w.if-is_meant.false) was)
     ]
 
 pub returns : goal.returns

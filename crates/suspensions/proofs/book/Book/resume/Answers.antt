@@ -25,7 +25,7 @@ invariant_of-self c =
     let g = c.index_mut.result.now in
     let i = c.place_of-place.result in
     let end = subst (λ (xs : List Given). IsEndOf xs number e) c.deref.ensures.value
-        (MatchOption-at_some ⊤ (IsEndOf c.deref.result.now number) e c.in_ok-ending.ensures.ok_part c.live_end.ensures.ending) in
+    (MatchOption-at_some ⊤ (IsEndOf c.deref.result.now number) e c.in_ok-ending.ensures.ok_part c.live_end.ensures.ending) in
     let all : c.deref-2.result.now ≡ ends = c.deref-2.ensures.value in
     let read : get_or book (number - 1) g ≡ g = sym c.index_mut.ensures.value in
     let within : number - 1 < length book = omega (arith, end.0, end.1) in
@@ -42,7 +42,7 @@ returns-clause-ok c =
     let e = c.in_ok-ending.ending in
     let g = c.index_mut.result.now in
     let end = subst (λ (xs : List Given). IsEndOf xs number e) c.deref.ensures.value
-        (MatchOption-at_some ⊤ (IsEndOf c.deref.result.now number) e c.in_ok-ending.ensures.ok_part c.live_end.ensures.ending) in
+    (MatchOption-at_some ⊤ (IsEndOf c.deref.result.now number) e c.in_ok-ending.ensures.ok_part c.live_end.ensures.ending) in
     let read : get_or book (number - 1) g ≡ g = sym c.index_mut.ensures.value in
     let within : number - 1 < length book = omega (arith, end.0, end.1) in
     set_resumed book (number - 1) g within read c.self.invariant.numbered
