@@ -1,6 +1,6 @@
 -- What the index answers of the orders.
-use Rattle.std.proofs.Common.{◌≡◌, ◌<◌, ◌≤◌, ◌+◌, ◌-◌, ℕ, zero, suc, List, [], ◌∷◌, ◌++◌, Bool, true, false, not, cond, ◌&&◌, nat_lt, nat_le, ◌==◌, All, count_by, length, get_or, take, drop, filter, find, map, min, Option, Some, None, option_map, slice_get, refl, sym, ap, ◌∙◌, subst, ⊎_elim, arith}
-use Rattle.std.specs.List.{AllWithin, list_any}
+use Rattle.std.proofs.Common.{◌≡◌, ◌<◌, ◌≤◌, ◌+◌, ◌-◌, ℕ, List, Bool, true, false, not, ◌&&◌, nat_lt, nat_le, ◌==◌, All, count_by, length, get_or, take, drop, filter, find, map, min, Option, Some, None, option_map, slice_get, refl, sym, ap, ◌∙◌, subst, ⊎_elim, arith}
+use Rattle.std.specs.List.{AllWithin}
 use Rattle.std.specs.Option.{option_map_or}
 use Rattle.std.specs.List.Sorted.{IsNonDecreasingBy}
 use Rattle.std.proofs.lemmas.Bool.{and_left, and_right, and_from, le-ltb, lt-ltb, cases_lt, cases_eq, cases_Bool, ne_eqb, eq-eqb}
@@ -12,11 +12,10 @@ use Rattle.std.proofs.lemmas.Option.{slice_get-get_or}
 use Rattle.suspensions.specs.declared.given.Given.{Given}
 use Rattle.suspensions.specs.declared.ends.Ending.{Ending}
 use Rattle.suspensions.specs.Orders.{is_live, live, least, next_end, has_live, end_of_given}
-use Rattle.suspensions.specs.Index.{rank, IsNumber, IsIndex, AreNumbered, stands, ending_of}
+use Rattle.suspensions.specs.Index.{IsIndex, AreNumbered, stands, ending_of}
 use Rattle.suspensions.specs.inside.Least.{is_at, is_below, IsLeast, is_given, passes}
 use Rattle.suspensions.proofs.CountLemmas.{count_none, count_some, count_same, find-filter, any-filter}
 use Rattle.suspensions.proofs.LeastLemmas.{one_least, least_skip, least_take, least_turned, least_behind, least_is_least, first_is_least}
-use Rattle.suspensions.proofs.IndexLemmas.{ends_rise, index_numbers}
 
 shuffled : (at end resumed meant : Bool) → (not resumed && (end && (at && meant))) ≡ (((at && end) && not resumed) && meant)
 shuffled false false false meant = refl

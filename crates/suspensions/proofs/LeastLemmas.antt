@@ -1,7 +1,7 @@
 -- The least number of what passes a test.
-use Rattle.std.proofs.Common.{◌≡◌, ◌<◌, ◌≤◌, ◌+◌, ℕ, zero, suc, List, [], ◌∷◌, ◌++◌, Bool, true, false, cond, ◌&&◌, nat_lt, ◌==◌, All, count_by, length, get_or, filter, find, map, min, Option, Some, None, option_map, refl, sym, ap, ◌∙◌, subst, ⊎_elim, arith}
+use Rattle.std.proofs.Common.{◌≡◌, ◌<◌, ◌≤◌, ◌+◌, ℕ, suc, List, [], ◌∷◌, ◌++◌, Bool, true, false, cond, nat_lt, ◌==◌, All, count_by, length, get_or, filter, find, map, min, Option, Some, None, option_map, refl, sym, ap, ◌∙◌, subst, ⊎_elim, arith}
 use Rattle.std.specs.Option.{option_map_or}
-use Rattle.std.proofs.lemmas.Bool.{and_parts, and_from, and_right, and_left, eqb-true, eq-eqb, lt-ltb, le-ltb, ltb-true, cases_lt, cases_order, cases_Bool}
+use Rattle.std.proofs.lemmas.Bool.{and_parts, and_from, and_right, and_left, eqb-true, eq-eqb, lt-ltb, le-ltb, ltb-true, cases_lt, cases_order}
 use Rattle.std.proofs.lemmas.List.Sums.{sum_by_push, sum_by-append}
 use Rattle.suspensions.specs.Orders.{least}
 use Rattle.suspensions.specs.inside.Least.{is_at, is_below, IsLeast}

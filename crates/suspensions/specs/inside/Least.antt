@@ -1,5 +1,5 @@
 -- The least number of what passes a test, told by counts.
-use Rattle.std.specs.Prelude.{◌≡◌, ◌<◌, ◌≤◌, ◌-◌, ◌==◌, ◌&&◌, ℕ, List, Bool, false, nat_lt, nat_le, Option, Some, None, count_by, slice_get}
+use Rattle.std.specs.Prelude.{◌≡◌, ◌<◌, ◌-◌, ◌==◌, ◌&&◌, ℕ, List, Bool, false, nat_lt, nat_le, Option, Some, None, count_by, slice_get}
 use Rattle.std.specs.Option.{option_map_or}
 use Rattle.suspensions.specs.declared.given.Given.{Given}
 use Rattle.suspensions.specs.declared.ends.Ending.{Ending}

@@ -1,4 +1,4 @@
-use Rattle.std.proofs.Common.{◌≡◌, ◌∙◌, ℕ, true, false, ◌+◌, Option, Some, get_or, take, refl, sym, ap, subst, arith}
+use Rattle.std.proofs.Common.{◌∙◌, ◌+◌, Some, take, sym, ap, subst}
 use Rattle.suspensions.specs.declared.given.Given.{Given}
 use Rattle.suspensions.specs.declared.ends.Ending.{Ending}
 use Rattle.suspensions.specs.inside.Question.{is_met}

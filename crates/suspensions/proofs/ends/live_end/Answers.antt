@@ -1,4 +1,4 @@
-use Rattle.std.proofs.Common.{◌≡◌, ◌∙◌, ◌<◌, ◌+◌, true, false, is_some, get_or, length, sym, ap, arith}
+use Rattle.std.proofs.Common.{◌≡◌, ◌∙◌, ◌+◌, is_some, sym, ap, arith}
 use Rattle.suspensions.specs.Orders.{is_live, has_live}
 use Rattle.suspensions.proofs.AnswerLemmas.{known_at, unknown_at}
 use Rattle.suspensions.proofs.ends.live_end.Goals as goal

@@ -1,4 +1,4 @@
-use Rattle.std.proofs.Common.{arith, rules}
+use Rattle.std.proofs.Common.{rules}
 use Rattle.std.proofs.lemmas.List.Sorted.{IsPartitionPoint-from_clause}
 use Rattle.suspensions.proofs.IndexLemmas.{comes_before, parted, first_from}
 use Rattle.suspensions.proofs.ends.place_of.Goals as goal

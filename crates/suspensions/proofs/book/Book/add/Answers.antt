@@ -1,6 +1,5 @@
-use Rattle.std.proofs.Common.{◌≡◌, ◌∙◌, ◌≤◌, ◌<◌, ◌+◌, ◌∷◌, ◌++◌, [], List, false, insert, length, sym, ap, refl, subst, arith}
+use Rattle.std.proofs.Common.{◌≡◌, ◌∙◌, ◌≤◌, ◌<◌, ◌+◌, ◌∷◌, ◌++◌, [], List, false, insert, length, sym, ap, subst, arith}
 use Rattle.std.specs.List.{AllWithin}
-use Rattle.suspensions.specs.declared.given.Given.{Given}
 use Rattle.suspensions.specs.declared.ends.Ending.{Ending}
 use Rattle.suspensions.specs.Orders.{with_order}
 use Rattle.suspensions.specs.Index.{IsIndex}
