@@ -15,7 +15,8 @@ use Rattle.policy_core.specs.LiveOrders.{end_of, duration_of}
 use Rattle.suspensions.specs.declared.given.Given.{Given}
 use Rattle.suspensions.specs.declared.ends.Ending.{Ending}
 use Rattle.suspensions.specs.Orders.{with_order, with_resumed, resumed_by}
-use Rattle.suspensions.specs.Index.{rank, IsNumber, IsIndex, IsEndOf, AreNumbered, stands, ending_of}
+use Rattle.suspensions.specs.Index.{rank, IsIndex, AreNumbered, stands, ending_of}
+use Rattle.suspensions.specs.inside.Ends.{IsNumber, IsEndOf}
 use Rattle.suspensions.proofs.CountLemmas.{count_some, count_found}
 
 -- ends rise with ranks

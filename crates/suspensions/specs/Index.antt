@@ -1,6 +1,5 @@
 -- The ends of the orders that were not taken back, from the earliest to the latest.
-use Rattle.std.specs.Prelude.{◌≡◌, ◌<◌, ◌≤◌, ◌+◌, ◌-◌, ◌*◌, ◌^◌, ℕ, List, Bool, false, not, ◌&&◌, All, count_by, length, slice_index_or}
-use Rattle.std.specs.List.{HoldsAt}
+use Rattle.std.specs.Prelude.{◌≡◌, ◌<◌, ◌≤◌, ◌+◌, ◌*◌, ◌^◌, ℕ, List, Bool, not, ◌&&◌, All, count_by, length, slice_index_or}
 use Rattle.std.specs.List.Sorted.{IsNonDecreasingBy}
 use Rattle.suspensions.specs.declared.given.Given.{Given}
 use Rattle.suspensions.specs.declared.ends.Ending.{Ending}
@@ -12,10 +11,6 @@ ending_of given = record { end = end_of_given given; number = given.number }
 -- by its end, and by its number where ends are equal
 abbrev pub rank : Ending → ℕ
 rank ending = ending.end * 4294967296 + ending.number
-
--- numbers are below 2^32, and begin at 1
-abbrev pub IsNumber : Ending → Type 0
-IsNumber ending = (1 ≤ ending.number) × (ending.number < 2 ^ 32)
 
 -- an order has this number
 abbrev pub IsNumberIn : List Given → Ending → Type 0
@@ -36,8 +31,3 @@ pub record IsIndex (book : List Given) (ends : List Ending) : Type 0 where
   pub within : All (IsNumberIn book) ends
   pub counts : (test : Ending → Bool) → count_by test ends ≡ count_by (stands test) book
   pub ordered : IsNonDecreasingBy rank ends
-
--- the end is that of the order of this number, which stands
-abbrev pub IsEndOf : List Given → ℕ → Ending → Type 0
-IsEndOf book number ending =
-    (1 ≤ number) × (number ≤ length book) × HoldsAt (λ given. (given.resumed ≡ false) × (ending ≡ ending_of given)) book (number - 1)

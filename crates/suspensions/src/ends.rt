@@ -1,11 +1,12 @@
 //! The ends of the orders that were not taken back, from the earliest to the latest, so that those that are live at a moment
 //! stand behind all that are over then.
-ghost use Rattle.std.specs.Prelude.{◌≡◌, ◌<◌, ◌≤◌, ◌-◌, true, false, min, is_some, Some, All, Contains, IfSome, length, find, option_map, slice_get};
+ghost use Rattle.std.specs.Prelude.{◌≡◌, ◌<◌, ◌≤◌, true, min, is_some, Some, All, Contains, IfSome, length, slice_get};
 ghost use Rattle.std.specs.List.{AllWithin};
 ghost use Rattle.std.specs.Option.{option_map_or};
 ghost use Rattle.std.specs.List.Sorted.{IsNonDecreasingBy};
 ghost use Rattle.suspensions.specs.Orders.{live, next_end, has_live};
-ghost use Rattle.suspensions.specs.Index.{IsIndex, AreNumbered, IsNumber, IsNumberIn, IsEndOf, rank};
+ghost use Rattle.suspensions.specs.Index.{IsIndex, AreNumbered, IsNumberIn, rank};
+ghost use Rattle.suspensions.specs.inside.Ends.{IsNumber, IsEndOf};
 ghost use Rattle.suspensions.specs.inside.Least.{is_given};
 ghost use Rattle.suspensions.specs.inside.Question as spec;
 
@@ -51,7 +52,7 @@ pub(crate) fn first_live(
     question: Question<'_>,
 ) -> Option<u32>
     requires { IsIndex book.now ends.now }
-    ensures { result ≡ option_map (λ given. given.number) (find (λ given. spec.is_met question.entry given.order) (live book.now t)) }
+    ensures { result ≡ spec.first_met question.entry (live book.now t) }
 {
     let mut first = None;
     for ending in &ends[count_over(ends, t)..] {

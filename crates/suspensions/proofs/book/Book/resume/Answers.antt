@@ -4,7 +4,8 @@ use Rattle.std.proofs.lemmas.Option.{MatchOption-at_some, get_or_from_slice_get}
 use Rattle.suspensions.specs.declared.given.Given.{Given}
 use Rattle.suspensions.specs.declared.ends.Ending.{Ending}
 use Rattle.suspensions.specs.Orders.{with_resumed}
-use Rattle.suspensions.specs.Index.{IsIndex, IsEndOf, ending_of}
+use Rattle.suspensions.specs.Index.{IsIndex, ending_of}
+use Rattle.suspensions.specs.inside.Ends.{IsEndOf}
 use Rattle.suspensions.proofs.IndexLemmas.{end_held, taken, set_resumed}
 use Rattle.suspensions.proofs.book.Book.resume.Goals as goal
 
