@@ -1,0 +1,4 @@
+pub mod CountLemmas
+pub mod LeastLemmas
+pub mod IndexLemmas
+pub mod AnswerLemmas
