@@ -1,0 +1,4 @@
+pub mod RateLemmas
+pub mod ListLemmas
+pub mod CallLemmas
+pub mod StandingLemmas

@@ -1,5 +1,5 @@
 //! A path, and what it allows.
-ghost use Rattle.std.specs.Prelude.{◌≡◌, ◌≤◌, ◌<◌, ◌+◌, ◌^◌, List, [], ◌∷◌, ◌++◌, length, OnOk};
+ghost use Rattle.std.specs.Prelude.{◌≡◌, ◌≤◌, ◌<◌, ◌+◌, ◌^◌, List, [], ◌∷◌, ◌++◌, length, false, OnOk};
 ghost use Rattle.path_lease.specs.Calls.{Call, opening, beginning, ending, closing, openings, was_opened, open_count, idle_since, is_idle, refusals};
 ghost use Rattle.path_lease.specs.Leaves.{Rates, AgreesOn, may_open, leave, next_admitted, after_or_latest};
 ghost use Rattle.path_lease.specs.State.{HasRoomToOpen, HasRoomToBegin, KeepsRoom};
