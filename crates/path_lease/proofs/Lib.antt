@@ -2,3 +2,4 @@ pub mod RateLemmas
 pub mod ListLemmas
 pub mod CallLemmas
 pub mod StandingLemmas
+pub mod LeaveLemmas

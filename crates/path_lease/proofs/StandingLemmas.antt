@@ -11,6 +11,7 @@ use Rattle.path_lease.specs.Calls.{Call, opening, beginning, ending, closing, St
 use Rattle.path_lease.specs.Leaves.{Rates}
 use Rattle.path_lease.specs.State.{PathState}
 use Rattle.path_lease.specs.Standing.{kept_at, connection_of, IsCounted, IsUntouched, StandsFor, are_distinct}
+use Rattle.path_lease.specs.inside.Kept.{with_attempt, at_rest}
 use Rattle.path_lease.proofs.ListLemmas.{or_false, any_more, count_more, distinct_more, one_less, has}
 use Rattle.path_lease.proofs.CallLemmas.{from_parts, by_parts, closed_more, closed_same, busy_more, idle_more, refusals_more, openings_more, openings_same, beginnings_more, beginnings_same, open_among, open_alike, open_same, open_more, under_more}
 
@@ -37,13 +38,7 @@ counted_more rate os o old new all here others key = by (nat_eq o.key key) refl 
 abbrev pub new_connection : ℕ → Connection
 new_connection t = record { beginnings = 0; idle = t; busy = false }
 
-abbrev pub with_attempt : Connection → Connection
-with_attempt w = record { beginnings = w.beginnings + 1; idle = w.idle; busy = true }
-
-abbrev pub at_rest : ℕ → Connection → Connection
-at_rest t w = record { beginnings = w.beginnings; idle = t; busy = false }
-
-abbrev made_of : ℕ → ℕ → Bool → Connection
+abbrev pub made_of : ℕ → ℕ → Bool → Connection
 made_of u i busy = record { beginnings = u; idle = i; busy = busy }
 
 after_opening : (b o c : Bool) (u i : ℕ) (busy : Bool) (t : ℕ) → (b ≡ true → (c ≡ false) × (u ≡ 0) × (busy ≡ false))
@@ -331,3 +326,35 @@ closed_one p now rates calls n refused is open_yet updates len opened begun same
     within_by : (b : Bool) → refusals (calls ++ closing n b ∷ []) + open_count (calls ++ c ∷ []) ≤ length (openings (calls ++ c ∷ []))
     within_by true = omega (arith, is.refusals_within, refusals_more calls (closing n true), fewer, ap length starts)
     within_by false = omega (arith, is.refusals_within, refusals_more calls (closing n false), fewer, ap length starts)
+
+-- what an idle or a working connection keeps
+pub kept_of : (p : PathState) (rates : Rates) (calls : List Call) (n : ℕ) → StandsFor p rates calls → is_open calls n ≡ true
+    → kept_at p.connections n ≡ Some (made_of (used calls n) (idle_since calls n) (is_busy calls n))
+kept_of p rates calls n is open_yet =
+    is.connections n ∙ cond-true (is_open calls n) (Some (made_of (used calls n) (idle_since calls n) (is_busy calls n))) None open_yet
+
+-- a connection that is kept is open
+pub open_by : (p : PathState) (rates : Rates) (calls : List Call) (n : ℕ) (w : Connection) → StandsFor p rates calls
+    → kept_at p.connections n ≡ Some w → is_open calls n ≡ true
+open_by p rates calls n w is there = by (is_open calls n) refl where
+  by : (b : Bool) → is_open calls n ≡ b → b ≡ true
+  by true e = refl
+  by false e =
+      let none = cond-false (is_open calls n) (Some (made_of (used calls n) (idle_since calls n) (is_busy calls n))) None e in
+      let both = sym there ∙ is.connections n ∙ none in
+      absurd cc
+
+-- more room changes nothing else
+pub unchanged : (p now : PathState) (rates : Rates) (calls : List Call) → StandsFor p rates calls → now.connections ≡ p.connections
+    → now.opened ≡ p.opened → now.begun ≡ p.begun → now.refusals ≡ p.refusals → StandsFor now rates calls
+unchanged p now rates calls is connections opened begun same =
+    record {
+      connections = λ q. ap (λ table. kept_at table q) connections ∙ is.connections q;
+      count = ap length connections ∙ is.count;
+      opened = λ key. subst (λ table. IsCounted (rates.connection key) (openings_under calls key) (kept_at table key)) (sym opened) (is.opened key);
+      begun = λ key. subst (λ table. IsCounted (rates.message key) (beginnings_under calls key) (kept_at table key)) (sym begun) (is.begun key);
+      refusals_kept = same ∙ is.refusals_kept;
+      refusals_within = is.refusals_within;
+      distinct = is.distinct;
+      untouched = is.untouched;
+    }

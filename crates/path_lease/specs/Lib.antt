@@ -2,3 +2,4 @@ pub mod Calls
 pub mod Leaves
 pub mod State
 pub mod Standing
+pub mod inside

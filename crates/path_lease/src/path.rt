@@ -5,7 +5,7 @@ ghost use Rattle.path_lease.specs.Leaves.{Rates, AgreesOn, may_open, leave, next
 ghost use Rattle.path_lease.specs.State.{HasRoomToOpen, HasRoomToBegin, KeepsRoom};
 ghost use Rattle.path_lease.specs.Standing.{StandsFor, MayOpen, MayBegin, IsIdle, IsWorking};
 
-use crate::connection::{Connection, is_past};
+use crate::connection::{Connection, Connections, begin_attempt, end_attempt, is_past};
 use crate::leave::Leave;
 use crate::rates::{Buckets, admits, count, next};
 use indexmap::IndexMap;
@@ -21,7 +21,7 @@ use std::marker::Model;
 /// the options in force agree so with those of the calls before.
 #[derive(Drop)]
 pub struct Path {
-    connections: IndexMap<u64, Connection>,
+    connections: Connections,
     opened: Buckets,
     begun: Buckets,
     refusals: u32,
@@ -128,10 +128,9 @@ impl Path {
         ensures to_open { self.old.room_to_open ≤ self.new.room_to_open }
         ensures to_begin { self.old.room_to_begin ≤ self.new.room_to_begin + 1 }
     {
-        if let Some(connection) = self.connections.get_mut(&conn) {
-            connection.beginnings += 1;
-            connection.busy = true;
-        }
+        // Reading the number tells the proof that one more attempt is a number that fits.
+        let _deliveries = now.deliveries;
+        begin_attempt(&mut self.connections, conn);
         count(&mut self.begun, now.message_rate, now.message_key, t);
     }
 
@@ -142,10 +141,7 @@ impl Path {
             → StandsFor self.new rates (calls ++ ending t conn ∷ []) }
         ensures room { KeepsRoom self.old self.new }
     {
-        if let Some(connection) = self.connections.get_mut(&conn) {
-            connection.idle = t;
-            connection.busy = false;
-        }
+        end_attempt(&mut self.connections, conn, t);
     }
 
     /// Since when a connection, which is open and not busy, has had nothing to send: the later of its opening and the end of

@@ -1,0 +1,20 @@
+use Rattle.std.proofs.Common.{subst, sym}
+use Rattle.path_lease.specs.Standing.{StandsFor}
+use Rattle.path_lease.proofs.StandingLemmas.{unchanged}
+use Rattle.path_lease.proofs.path.Path.reserve.Goals as goal
+
+pub returns-in_err-reserve-clause-stands : goal.returns-in_err-reserve-clause-stands
+returns-in_err-reserve-clause-stands c = λ rates calls is.
+    unchanged _ _ rates calls (subst (λ p. StandsFor p rates calls) (sym c.self.view_is) is) ? ? ? ?
+
+pub returns-in_err-reserve-2-clause-stands : goal.returns-in_err-reserve-2-clause-stands
+returns-in_err-reserve-2-clause-stands c = λ rates calls is.
+    unchanged _ _ rates calls (subst (λ p. StandsFor p rates calls) (sym c.self.view_is) is) ? ? ? ?
+
+pub returns-in_err-reserve-3-clause-stands : goal.returns-in_err-reserve-3-clause-stands
+returns-in_err-reserve-3-clause-stands c = λ rates calls is.
+    unchanged _ _ rates calls (subst (λ p. StandsFor p rates calls) (sym c.self.view_is) is) ? ? ? ?
+
+pub returns-clause-stands : goal.returns-clause-stands
+returns-clause-stands c = λ rates calls is.
+    unchanged _ _ rates calls (subst (λ p. StandsFor p rates calls) (sym c.self.view_is) is) ? ? ? ?
