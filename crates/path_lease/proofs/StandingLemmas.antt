@@ -8,7 +8,8 @@ use Rattle.throttle_spec.specs.Throttle.{Throttle}
 use Rattle.throttle_spec.specs.Bucket.{BucketState}
 use Rattle.path_lease.specs.declared.connection.Connection.{Connection}
 use Rattle.path_lease.specs.Calls.{Call, opening, beginning, ending, closing, Start, opening_in, beginning_in, openings, beginnings, moments_under, openings_under, beginnings_under, closes, was_opened, was_closed, is_open, is_idle, is_working, open_count, used, is_busy, idle_since, refusals}
-use Rattle.path_lease.specs.Leaves.{Rates}
+use Rattle.policy_core.specs.declared.options.InForce.{InForce}
+use Rattle.path_lease.specs.Leaves.{Rates, AgreesOn}
 use Rattle.path_lease.specs.State.{PathState}
 use Rattle.path_lease.specs.Standing.{kept_at, connection_of, IsCounted, IsUntouched, StandsFor, are_distinct}
 use Rattle.path_lease.specs.inside.Kept.{with_attempt, at_rest}
@@ -358,3 +359,21 @@ unchanged p now rates calls is connections opened begun same =
       distinct = is.distinct;
       untouched = is.untouched;
     }
+
+-- what is counted under the keys in force
+pub opening_at : (p : PathState) (rates : Rates) (calls : List Call) (now : InForce) → StandsFor p rates calls → AgreesOn rates now
+    → IsCounted now.connection_rate (openings_under calls now.connection_key) (kept_at p.opened now.connection_key)
+opening_at p rates calls now is agrees =
+    subst (λ r. IsCounted r (openings_under calls now.connection_key) (kept_at p.opened now.connection_key)) agrees.connection (is.opened now.connection_key)
+
+pub beginning_at : (p : PathState) (rates : Rates) (calls : List Call) (now : InForce) → StandsFor p rates calls → AgreesOn rates now
+    → IsCounted now.message_rate (beginnings_under calls now.message_key) (kept_at p.begun now.message_key)
+beginning_at p rates calls now is agrees =
+    subst (λ r. IsCounted r (beginnings_under calls now.message_key) (kept_at p.begun now.message_key)) agrees.message (is.begun now.message_key)
+
+-- what is kept of a connection is what the calls say of it
+pub as_called : (p : PathState) (rates : Rates) (calls : List Call) (n : ℕ) (w : Connection) → StandsFor p rates calls
+    → kept_at p.connections n ≡ Some w → w ≡ made_of (used calls n) (idle_since calls n) (is_busy calls n)
+as_called p rates calls n w is there =
+    let both = sym there ∙ kept_of p rates calls n is (open_by p rates calls n w is there) in
+    cc
