@@ -1,16 +1,15 @@
 -- What one more call adds to what is counted over the calls.
-use Rattle.std.proofs.Common.{◌≡◌, ◌+◌, refl, sym, ap, ◌∙◌, ℕ, List, [], ◌∷◌, ◌++◌, Bool, true, false, cond, not, ◌&&◌, ◌||◌, nat_eq, Option, Some, None, length, filter, filter_map, map, arith, length-append, append-nil}
+use Rattle.std.proofs.Common.{◌≡◌, ◌+◌, refl, ap, ◌∙◌, ℕ, List, [], ◌∷◌, ◌++◌, Bool, true, false, cond, not, ◌&&◌, ◌||◌, Option, Some, None, length, filter, map, arith, length-append, append-nil}
 use Rattle.std.specs.Prelude.{◌==◌}
-use Rattle.std.specs.List.{list_any, count_by, fold, cons_option}
-use Rattle.std.proofs.lemmas.Bool.{eqb-true, eq-eqb, true≢false, or_from}
+use Rattle.std.specs.List.{cons_option}
 use Rattle.std.proofs.lemmas.List.{map-append}
 use Rattle.std.proofs.lemmas.List.Elements.{filter-append, filter_map-append}
 use Rattle.std.proofs.lemmas.List.Sums.{fold-append}
 use Rattle.kumo_base.specs.Moment.{clamped}
 use Rattle.path_lease.specs.declared.connection.Connection.{Connection}
-use Rattle.path_lease.specs.Calls.{Call, opening, beginning, ending, closing, Start, opening_in, beginning_in, openings, beginnings, moments_under, closes, was_opened, was_closed, is_open, open_count, used, is_busy, busy_after, idle_since, idle_after, refusals, refusals_after}
-use Rattle.path_lease.specs.Standing.{connection_of, IsUntouched}
-use Rattle.path_lease.proofs.ListLemmas.{or_false, any_more, count_more, filter_alike, filter_more}
+use Rattle.path_lease.specs.Calls.{Call, Start, opening_in, beginning_in, openings, beginnings, moments_under, closes, was_opened, was_closed, open_count, used, is_busy, busy_after, idle_since, idle_after, refusals, refusals_after}
+use Rattle.path_lease.specs.Standing.{connection_of}
+use Rattle.path_lease.proofs.ListLemmas.{or_false, any_more, filter_alike, filter_more}
 
 -- a connection from what the calls say of it
 abbrev pub from_parts : Bool → Bool → ℕ → ℕ → Bool → Option Connection

@@ -1,10 +1,10 @@
 -- What a leave says.
-use Rattle.std.proofs.Common.{◌≡◌, ◌<◌, ◌≤◌, refl, sym, ap, ◌∙◌, ℕ, min, List, [], ◌∷◌, Option, Some, None, Bool, true, false, cond, not, nat_le, nat_lt, arith}
+use Rattle.std.proofs.Common.{◌≡◌, ◌<◌, ◌≤◌, refl, ℕ, min, List, [], ◌∷◌, Option, Some, None, Bool, true, false, cond, not, nat_le, nat_lt, arith}
 use Rattle.std.specs.List.{fold}
-use Rattle.std.proofs.lemmas.Bool.{leb-false, cases_Bool, true≢false}
+use Rattle.std.proofs.lemmas.Bool.{leb-false}
 use Rattle.kumo_base.specs.Limits.{latest_moment}
 use Rattle.throttle_spec.specs.Throttle.{Throttle}
-use Rattle.throttle_spec.specs.Rates.{admits, least_by_rate}
+use Rattle.throttle_spec.specs.Rates.{least_by_rate}
 use Rattle.throttle_spec.proofs.BucketLemmas.{least_says}
 use Rattle.policy_core.specs.declared.options.InForce.{InForce}
 use Rattle.path_lease.specs.declared.leave.Leave.{Leave}

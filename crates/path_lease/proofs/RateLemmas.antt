@@ -1,12 +1,12 @@
 -- What a bucket says of the moments that it took.
-use Rattle.std.proofs.Common.{◌≡◌, ◌↔◌, ◌⊎◌, inl, inr, refl, sym, ap, subst, ◌∙◌, ℕ, List, [], ◌∷◌, ◌++◌, Bool, true, false, IsTrue, Option, Some, None}
+use Rattle.std.proofs.Common.{◌≡◌, ◌↔◌, refl, sym, ap, subst, ◌∙◌, ℕ, List, [], ◌∷◌, ◌++◌, Bool, true, false, IsTrue, Option, Some}
 use Rattle.kumo_base.specs.Moment.{clamped}
 use Rattle.throttle_spec.specs.Throttle.{Throttle, Conforms, conforms, least_admitted}
 use Rattle.throttle_spec.specs.Rates.{admits, least_by_rate}
 use Rattle.throttle_spec.specs.Bucket as bucket
 use Rattle.throttle_spec.specs.Bucket.{BucketState, IsAdmitted}
 use Rattle.throttle_spec.proofs.BucketLemmas.{conforms_decides, room_decides}
-use Rattle.path_lease.specs.Standing.{IsCounted, IsAdmittedBySome}
+use Rattle.path_lease.specs.Standing.{IsCounted}
 
 same_answer : (s : Throttle) (moments : List ℕ) (b : Bool) → (IsTrue b ↔ Conforms s moments) → b ≡ conforms s moments
 same_answer s moments true both = sym ((conforms_decides s moments).1 (both.0 refl))

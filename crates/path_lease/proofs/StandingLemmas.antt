@@ -2,16 +2,16 @@
 use Rattle.std.proofs.Common.{◌≡◌, ◌+◌, ◌≤◌, ◌^◌, ◌-◌, refl, sym, ap, subst, ◌∙◌, ℕ, min, List, [], ◌∷◌, ◌++◌, Bool, true, false, cond, not, ◌&&◌, ◌||◌, nat_eq, Option, Some, None, length, arith, append-nil, length-append}
 use Rattle.std.specs.Prelude.{◌==◌}
 use Rattle.std.specs.List.{count_by}
-use Rattle.std.proofs.lemmas.Bool.{eqb-true, eq-eqb, true≢false, or_parts, and_parts, not-true, cond-true, cond-false}
+use Rattle.std.proofs.lemmas.Bool.{eqb-true, true≢false, or_parts, and_parts, not-true, cond-true, cond-false}
 use Rattle.kumo_base.specs.Moment.{clamped}
 use Rattle.throttle_spec.specs.Throttle.{Throttle}
 use Rattle.throttle_spec.specs.Bucket.{BucketState}
 use Rattle.path_lease.specs.declared.connection.Connection.{Connection}
-use Rattle.path_lease.specs.Calls.{Call, opening, beginning, ending, closing, Start, opening_in, beginning_in, openings, beginnings, moments_under, openings_under, beginnings_under, closes, was_opened, was_closed, is_open, is_idle, is_working, open_count, used, is_busy, idle_since, refusals}
+use Rattle.path_lease.specs.Calls.{Call, opening, beginning, ending, closing, Start, openings, beginnings, moments_under, openings_under, beginnings_under, was_opened, was_closed, is_open, open_count, used, is_busy, idle_since, refusals}
 use Rattle.policy_core.specs.declared.options.InForce.{InForce}
 use Rattle.path_lease.specs.Leaves.{Rates, AgreesOn}
 use Rattle.path_lease.specs.State.{PathState}
-use Rattle.path_lease.specs.Standing.{kept_at, connection_of, IsCounted, IsUntouched, StandsFor, are_distinct}
+use Rattle.path_lease.specs.Standing.{kept_at, connection_of, IsCounted, StandsFor, are_distinct}
 use Rattle.path_lease.specs.inside.Kept.{with_attempt, at_rest}
 use Rattle.path_lease.proofs.ListLemmas.{or_false, any_more, count_more, distinct_more, one_less, has}
 use Rattle.path_lease.proofs.CallLemmas.{from_parts, by_parts, closed_more, closed_same, busy_more, idle_more, refusals_more, openings_more, openings_same, beginnings_more, beginnings_same, open_among, open_alike, open_same, open_more, under_more}
@@ -101,15 +101,21 @@ opened_one p now rates calls t n k is unknown updates len counted others begun s
           updates q ∙ ap (cond (nat_eq n q) (Some (new_connection t))) (is.connections q)
           ∙ sym (after_opening (nat_eq n q) (was_opened calls q) (was_closed calls q) (used calls q) (idle_since calls q) (is_busy calls q) t (fresh q))
           ∙ sym (by_parts next q (was_opened calls q || nat_eq n q) (was_closed calls q) (used calls q) (cond (nat_eq n q) t (idle_since calls q)) (is_busy calls q)
-              (opens q) (closed_same calls c q refl) (uses q) (idle_more calls c q) (busy_more calls c q));
+          (opens q) (closed_same calls c q refl) (uses q) (idle_more calls c q) (busy_more calls c q));
       count = omega (arith, len, is.count, open_more calls c o refl (λ q. refl) (is.untouched n unknown).not_closed);
       opened = λ key. subst (λ os. IsCounted (rates.connection key) (moments_under key os) (kept_at now.opened key)) (sym starts)
           (counted_more rates.connection (openings calls) o (kept_at p.opened) (kept_at now.opened) is.opened counted others key);
       begun = λ key. subst (λ bs. IsCounted (rates.message key) (moments_under key bs) (kept_at now.begun key)) (sym (beginnings_same calls c refl))
           (subst (λ table. IsCounted (rates.message key) (beginnings_under calls key) (kept_at table key)) (sym begun) (is.begun key));
       refusals_kept = same ∙ is.refusals_kept ∙ ap (λ r. min r (2 ^ 32 - 1)) (sym (refusals_more calls c));
-      refusals_within = omega (arith, is.refusals_within, refusals_more calls c, open_more calls c o refl (λ q. refl) (is.untouched n unknown).not_closed,
-          ap length starts, length-append (openings calls) (o ∷ []));
+      refusals_within = omega (
+        arith,
+        is.refusals_within,
+        refusals_more calls c,
+        open_more calls c o refl (λ q. refl) (is.untouched n unknown).not_closed,
+        ap length starts,
+        length-append (openings calls) (o ∷ []),
+      );
       distinct = ap are_distinct starts ∙ distinct_more (openings calls) o is.distinct unknown;
       untouched = λ q none.
           let apart = or_parts (was_opened calls q) (nat_eq n q) (sym (opens q) ∙ none) in
@@ -167,7 +173,7 @@ begun_one p now rates calls t n k w is here updates len counted others opened sa
           updates q ∙ ap (cond (nat_eq n q) (Some (with_attempt w))) (is.connections q)
           ∙ sym (after_beginning (nat_eq n q) (was_opened calls q) (was_closed calls q) (used calls q) (idle_since calls q) (is_busy calls q) w (at q))
           ∙ sym (by_parts next q (was_opened calls q) (was_closed calls q) (used calls q + cond (nat_eq n q) 1 0) (idle_since calls q) (cond (nat_eq n q) true (is_busy calls q))
-              (opens q) (closed_same calls c q refl) (uses q) (idle_more calls c q) (busy_more calls c q));
+          (opens q) (closed_same calls c q refl) (uses q) (idle_more calls c q) (busy_more calls c q));
       count = len ∙ is.count ∙ sym (open_same calls c refl (λ q. refl));
       opened = λ key. subst (λ os. IsCounted (rates.connection key) (moments_under key os) (kept_at now.opened key)) (sym starts)
           (subst (λ table. IsCounted (rates.connection key) (openings_under calls key) (kept_at table key)) (sym opened) (is.opened key));
@@ -222,7 +228,7 @@ ended_one p now rates calls t n w is here updates len opened begun same =
           updates q ∙ ap (cond (nat_eq n q) (Some (at_rest t w))) (is.connections q)
           ∙ sym (after_ending (nat_eq n q) (was_opened calls q) (was_closed calls q) (used calls q) (idle_since calls q) (is_busy calls q) t w (at q))
           ∙ sym (by_parts next q (was_opened calls q) (was_closed calls q) (used calls q) (cond (nat_eq n q) t (idle_since calls q)) (cond (nat_eq n q) false (is_busy calls q))
-              (opens q) (closed_same calls c q refl) (uses q) (idle_more calls c q) (busy_more calls c q));
+          (opens q) (closed_same calls c q refl) (uses q) (idle_more calls c q) (busy_more calls c q));
       count = len ∙ is.count ∙ sym (open_same calls c refl (λ q. refl));
       opened = λ key. subst (λ os. IsCounted (rates.connection key) (moments_under key os) (kept_at now.opened key)) (sym starts)
           (subst (λ table. IsCounted (rates.connection key) (openings_under calls key) (kept_at table key)) (sym opened) (is.opened key));
@@ -277,7 +283,7 @@ closed_one p now rates calls n refused is open_yet updates len opened begun same
           updates q ∙ ap (cond (nat_eq n q) None) (is.connections q)
           ∙ sym (after_closing (nat_eq n q) (was_opened calls q) (was_closed calls q) (used calls q) (idle_since calls q) (is_busy calls q))
           ∙ sym (by_parts next q (was_opened calls q) (was_closed calls q || nat_eq n q) (used calls q) (idle_since calls q) (is_busy calls q)
-              (opens q) (closed_more calls c q) (uses q) (idle_more calls c q) (busy_more calls c q));
+          (opens q) (closed_more calls c q) (uses q) (idle_more calls c q) (busy_more calls c q));
       count = omega (arith, len, is.count, fewer);
       opened = λ key. subst (λ os. IsCounted (rates.connection key) (moments_under key os) (kept_at now.opened key)) (sym starts)
           (subst (λ table. IsCounted (rates.connection key) (openings_under calls key) (kept_at table key)) (sym opened) (is.opened key));

@@ -1,8 +1,7 @@
 -- The calls made on a path, in order, and what is counted over them.
-use Rattle.std.specs.Prelude.{ℕ, ◌+◌, ◌==◌, List, [], ◌∷◌, length, Bool, true, false, not, ◌&&◌, Option, Some, None, filter, filter_map, map, fold, count_by, if◌then◌else◌}
+use Rattle.std.specs.Prelude.{ℕ, ◌+◌, ◌==◌, List, length, Bool, true, false, not, ◌&&◌, Option, Some, None, filter, filter_map, map, fold, count_by, if◌then◌else◌}
 use Rattle.std.specs.List.{list_any}
 use Rattle.kumo_base.specs.Moment.{clamped}
-use Rattle.path_lease.specs.declared.connection.Connection.{Connection}
 
 pub data Call : Type 0 where
   -- at a moment a connection of a number is opened, under a key of the rate of connections

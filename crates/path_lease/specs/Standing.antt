@@ -1,9 +1,8 @@
 -- Which lists of calls a path stands for, and what such a list has to say before a call.
-use Rattle.std.specs.Prelude.{ℕ, ◌≡◌, ◌≤◌, ◌+◌, ◌-◌, ◌^◌, ◌==◌, ◌⊎◌, min, nat_eq, List, [], ◌∷◌, length, Bool, true, false, not, ◌&&◌, IsTrue, Option, Some, None, if◌then◌else◌}
+use Rattle.std.specs.Prelude.{ℕ, ◌≡◌, ◌≤◌, ◌+◌, ◌-◌, ◌^◌, ◌==◌, ◌⊎◌, min, nat_eq, List, [], ◌∷◌, length, Bool, true, false, not, ◌&&◌, Option, Some, None, if◌then◌else◌}
 use Rattle.std.specs.List.{list_any}
 use Rattle.std.specs.Map.{lookup}
 use Rattle.throttle_spec.specs.Throttle.{Throttle}
-use Rattle.throttle_spec.specs.Rates.{admits}
 use Rattle.throttle_spec.specs.Bucket as bucket
 use Rattle.throttle_spec.specs.Bucket.{BucketState}
 use Rattle.policy_core.specs.declared.options.InForce.{InForce}
@@ -28,12 +27,6 @@ connection_of calls conn =
 abbrev pub IsCounted : Option Throttle → List ℕ → Option BucketState → Type 0
 IsCounted rate moments None = (rate ≡ None) ⊎ (moments ≡ [])
 IsCounted rate moments (Some b) = (rate ≡ Some b.throttle) × bucket.StandsFor b moments
-
--- by some moments that the bucket took, the rate admits one more
-pub record IsAdmittedBySome (rate : Option Throttle) (kept : Option BucketState) (t : ℕ) : Type 0 where
-  pub moments : List ℕ
-  pub counted : IsCounted rate moments kept
-  pub admitted : admits rate moments t ≡ true
 
 -- no number stands twice
 abbrev pub are_distinct : List Start → Bool

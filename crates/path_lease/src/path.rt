@@ -17,13 +17,17 @@ use std::marker::Model;
 /// The limits of a path over the calls made on it. Moments are milliseconds since 1970. Each call takes constant time,
 /// however many were made before.
 ///
-/// A key of a throttle has to come with the same throttle in all calls: what is promised of an answer, it is promised where
-/// the options in force agree so with those of the calls before.
+/// A key of a throttle comes with the same throttle in all calls, or with none in all: the answers are promised where the
+/// options in force agree in this with those of the calls before.
 #[derive(Drop)]
 pub struct Path {
+    /// The open connections.
     connections: Connections,
+    /// How often connections were opened under each key, as far as its throttle asks.
     opened: Buckets,
+    /// How often attempts began under each key, as far as its throttle asks.
     begun: Buckets,
+    /// How many connections were refused since one was closed for another cause.
     refusals: u32,
 }
 
@@ -35,12 +39,12 @@ impl Model for Path {
     ghost Value = { PathState };
 
     ghost view = { λ p. record {
-        connections = p.connections.entries;
-        opened = p.opened.entries;
-        begun = p.begun.entries;
-        refusals = p.refusals;
-        room_to_open = min (spare p.connections) (spare p.opened);
-        room_to_begin = spare p.begun
+      connections = p.connections.entries;
+      opened = p.opened.entries;
+      begun = p.begun.entries;
+      refusals = p.refusals;
+      room_to_open = min (spare p.connections) (spare p.opened);
+      room_to_begin = spare p.begun;
     } };
 }
 
@@ -81,7 +85,8 @@ impl Path {
             && admits(&self.begun, now.message_rate, now.message_key, t)
     }
 
-    /// Opens a connection of a number that none had before, where `may_open` allows it. It takes no memory.
+    /// Opens a connection of a number that none had before, where `may_open` allows it. It takes no memory: `reserve` has
+    /// made room.
     pub fn open(&mut self, t: u64, conn: u64, now: &InForce)
         requires allowed { MayOpen self.old t conn now.now }
         requires room { HasRoomToOpen self.old }
@@ -119,7 +124,8 @@ impl Path {
         }
     }
 
-    /// Begins an attempt on a connection that is open and not busy, where `may_begin` says `Yes`. It takes no memory.
+    /// Begins an attempt on a connection that is open and not busy, where `may_begin` says `Yes`. It takes no memory:
+    /// `reserve` has made room.
     pub fn begin(&mut self, t: u64, conn: u64, now: &InForce)
         requires allowed { MayBegin self.old t conn now.now }
         requires room { HasRoomToBegin self.old }
@@ -193,12 +199,12 @@ impl Path {
     {
         let opening = next(&self.opened, now.connection_rate, now.connection_key, t);
         let beginning = next(&self.begun, now.message_rate, now.message_key, t);
-        if_after(opening, t).min(if_after(beginning, t))
+        after_or_latest(opening, t).min(after_or_latest(beginning, t))
     }
 }
 
 /// A moment that is above t, and the latest one in place of another.
-fn if_after(moment: u64, t: u64) -> u64
+fn after_or_latest(moment: u64, t: u64) -> u64
     ensures { result ≡ after_or_latest t moment }
 {
     if t < moment { moment } else { LAST_MOMENT }

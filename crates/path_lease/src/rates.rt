@@ -6,7 +6,8 @@ ghost use Rattle.kumo_base.specs.Moment.{clamped};
 ghost use Rattle.throttle_spec.specs.Rates.{admits, least_by_rate};
 ghost use Rattle.throttle_spec.specs.Bucket.{StandsFor};
 ghost use Rattle.indexmap.specs.IndexMap.{get, spare};
-ghost use Rattle.path_lease.specs.Standing.{IsCounted, IsAdmittedBySome};
+ghost use Rattle.path_lease.specs.Standing.{IsCounted};
+ghost use Rattle.path_lease.specs.inside.Kept.{IsAdmittedBySome};
 
 use indexmap::IndexMap;
 use kumo_base::LAST_MOMENT;

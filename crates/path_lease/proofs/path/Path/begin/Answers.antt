@@ -1,4 +1,4 @@
-use Rattle.std.proofs.Common.{◌≡◌, ◌+◌, ◌<◌, ◌∷◌, ◌++◌, [], Bool, not, refl, sym, ap, subst, ◌∙◌, nat_eq, arith}
+use Rattle.std.proofs.Common.{◌<◌, ◌∷◌, ◌++◌, [], not, refl, sym, subst, nat_eq, arith}
 use Rattle.std.proofs.lemmas.Bool.{and_parts}
 use Rattle.kumo_base.specs.Moment.{clamped}
 use Rattle.indexmap.specs.IndexMap.{get}
@@ -38,5 +38,5 @@ returns-clause-stands c = λ rates calls is agrees.
     begun_one _ _ rates calls c.args.t c.args.conn key _ stands there
     (c.begin_attempt.ensures.updates _ there) c.begin_attempt.ensures.len
     (subst (λ r. IsCounted r (beginnings_under calls key ++ clamped c.args.t ∷ []) (get nat_eq c.count.new.buckets key)) (sym agrees.message)
-        (c.count.ensures.counted (beginnings_under calls key) (subst (λ r. IsCounted r (beginnings_under calls key) (get nat_eq c.self.inside.begun key)) agrees.message (stands.begun key))))
+    (c.count.ensures.counted (beginnings_under calls key) (subst (λ r. IsCounted r (beginnings_under calls key) (get nat_eq c.self.inside.begun key)) agrees.message (stands.begun key))))
     c.count.ensures.others refl refl

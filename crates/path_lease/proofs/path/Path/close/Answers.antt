@@ -1,4 +1,4 @@
-use Rattle.std.proofs.Common.{◌≡◌, ◌+◌, Option, Some, None, is_some, cond, Bool, true, false, not, refl, sym, ap, subst, ◌∙◌, nat_eq, ℕ, arith}
+use Rattle.std.proofs.Common.{◌≡◌, ◌+◌, Option, Some, is_some, cond, not, refl, sym, ap, subst, ◌∙◌, nat_eq, ℕ}
 use Rattle.std.proofs.lemmas.Bool.{and_parts}
 use Rattle.indexmap.specs.IndexMap.{get, index_map_len}
 use Rattle.path_lease.specs.Calls.{is_open, is_busy}

@@ -1,8 +1,8 @@
-use Rattle.std.proofs.Common.{◌≡◌, ◌<◌, ◌≤◌, ◌∙◌, sym, subst, ap, refl, Bool, true, false, not, nat_lt, nat_le, arith}
-use Rattle.std.proofs.lemmas.Bool.{lt-leb, le-ltb, not-true, not-false}
+use Rattle.std.proofs.Common.{◌∙◌, sym, subst, ap, arith}
+use Rattle.std.proofs.lemmas.Bool.{lt-leb, le-ltb}
 use Rattle.path_lease.specs.declared.leave.Leave.TheVariants.{Throttled}
 use Rattle.path_lease.specs.Calls.{beginnings_under, open_count, used}
-use Rattle.path_lease.specs.Leaves.{is_past, is_stale}
+use Rattle.path_lease.specs.Leaves.{is_past}
 use Rattle.path_lease.specs.Standing.{StandsFor}
 use Rattle.path_lease.proofs.LeaveLemmas.{throttled_by, yes_by}
 use Rattle.path_lease.proofs.StandingLemmas.{beginning_at, as_called}
@@ -17,10 +17,10 @@ returns-then-not-admits c = λ rates calls is agrees.
     let u = c.next.ensures (beginnings_under calls now.message_key) begun in
     ap Throttled u
     ∙ sym (throttled_by calls c.args.t c.args.conn now
-        (sym (ap (λ w. is_past now.idle_timeout w.idle c.args.t) same) ∙ sym c.is_past.ensures ∙ c.if-is_past.false)
-        (lt-leb now.deliveries (used calls c.args.conn) (omega (arith, c.if-now-connection.false, ap (λ w. w.beginnings) same)))
-        (le-ltb now.connection_limit (open_count calls) (omega (arith, c.if-len-now.false, c.len.ensures.len, stands.count)))
-        (sym (c.admits.ensures (beginnings_under calls now.message_key) begun) ∙ c.if-not-admits.true))
+    (sym (ap (λ w. is_past now.idle_timeout w.idle c.args.t) same) ∙ sym c.is_past.ensures ∙ c.if-is_past.false)
+    (lt-leb now.deliveries (used calls c.args.conn) (omega (arith, c.if-now-connection.false, ap (λ w. w.beginnings) same)))
+    (le-ltb now.connection_limit (open_count calls) (omega (arith, c.if-len-now.false, c.len.ensures.len, stands.count)))
+    (sym (c.admits.ensures (beginnings_under calls now.message_key) begun) ∙ c.if-not-admits.true))
 
 pub returns-else-not-admits : goal.returns-else-not-admits
 returns-else-not-admits c = λ rates calls is agrees.
@@ -29,7 +29,7 @@ returns-else-not-admits c = λ rates calls is agrees.
     let same = as_called _ rates calls c.args.conn c.index-connection.result.now stands c.index-connection.ensures in
     let begun = beginning_at _ rates calls now stands agrees in
     sym (yes_by calls c.args.t c.args.conn now
-        (sym (ap (λ w. is_past now.idle_timeout w.idle c.args.t) same) ∙ sym c.is_past.ensures ∙ c.if-is_past.false)
-        (lt-leb now.deliveries (used calls c.args.conn) (omega (arith, c.if-now-connection.false, ap (λ w. w.beginnings) same)))
-        (le-ltb now.connection_limit (open_count calls) (omega (arith, c.if-len-now.false, c.len.ensures.len, stands.count)))
-        (sym (c.admits.ensures (beginnings_under calls now.message_key) begun) ∙ c.if-not-admits.false))
+    (sym (ap (λ w. is_past now.idle_timeout w.idle c.args.t) same) ∙ sym c.is_past.ensures ∙ c.if-is_past.false)
+    (lt-leb now.deliveries (used calls c.args.conn) (omega (arith, c.if-now-connection.false, ap (λ w. w.beginnings) same)))
+    (le-ltb now.connection_limit (open_count calls) (omega (arith, c.if-len-now.false, c.len.ensures.len, stands.count)))
+    (sym (c.admits.ensures (beginnings_under calls now.message_key) begun) ∙ c.if-not-admits.false))

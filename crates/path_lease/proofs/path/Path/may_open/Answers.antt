@@ -1,4 +1,4 @@
-use Rattle.std.proofs.Common.{◌≡◌, ◌<◌, ◌∙◌, sym, subst, ap, refl, Bool, true, false, ◌&&◌, nat_lt, arith}
+use Rattle.std.proofs.Common.{◌≡◌, ◌<◌, ◌∙◌, sym, subst, refl, Bool, true, false, ◌&&◌, nat_lt, arith}
 use Rattle.std.proofs.lemmas.Bool.{lt-ltb, le-ltb, true≢false}
 use Rattle.path_lease.specs.Calls.{openings_under, beginnings_under, open_count}
 use Rattle.path_lease.specs.Leaves.{admits_opening, admits_beginning}

@@ -1,10 +1,10 @@
-use Rattle.std.proofs.Common.{◌≡◌, ◌+◌, ◌∷◌, ◌++◌, [], Bool, true, false, ◌&&◌, cond, refl, sym, ap, subst, ◌∙◌, nat_eq, nat_lt, is_some, Option, Some, None, ℕ, length, Result, Ok, Err, OnOk, IfOk, IsOk, arith}
+use Rattle.std.proofs.Common.{◌≡◌, ◌+◌, ◌∷◌, ◌++◌, [], ◌&&◌, cond, refl, sym, ap, subst, ◌∙◌, nat_eq, nat_lt, is_some, Option, None, ℕ, Result, Ok, Err, OnOk, IfOk, IsOk, arith}
 use Rattle.std.proofs.lemmas.Bool.{true≢false, and_parts}
 use Rattle.kumo_base.specs.Moment.{clamped}
 use Rattle.indexmap.specs.IndexMap.{get, index_map_len}
-use Rattle.path_lease.specs.Calls.{openings_under, was_opened, was_closed, open_count}
+use Rattle.path_lease.specs.Calls.{openings_under, open_count}
 use Rattle.path_lease.specs.Leaves.{admits_opening, admits_beginning}
-use Rattle.path_lease.specs.Standing.{IsCounted, connection_of, StandsFor}
+use Rattle.path_lease.specs.Standing.{IsCounted, StandsFor}
 use Rattle.path_lease.proofs.StandingLemmas.{opened_one, not_kept}
 use Rattle.path_lease.proofs.path.Path.open.Goals as goal
 
@@ -44,5 +44,5 @@ returns-clause-stands c = λ rates calls is agrees unknown.
     updates.0
     (one_more c.insert-opened.result (get nat_eq c.self.inside.connections c.args.conn) (index_map_len c.self.inside.connections) (index_map_len c.insert-opened.new.self) room e.old none e.len)
     (subst (λ r. IsCounted r (openings_under calls key ++ clamped c.args.t ∷ []) (get nat_eq c.count.new.buckets key)) (sym agrees.connection)
-        (c.count.ensures.counted (openings_under calls key) (subst (λ r. IsCounted r (openings_under calls key) (get nat_eq c.self.inside.opened key)) agrees.connection (stands.opened key))))
+    (c.count.ensures.counted (openings_under calls key) (subst (λ r. IsCounted r (openings_under calls key) (get nat_eq c.self.inside.opened key)) agrees.connection (stands.opened key))))
     c.count.ensures.others refl refl
