@@ -1,7 +1,7 @@
 -- What a leave says.
 use Rattle.std.proofs.Common.{◌≡◌, ◌<◌, ◌≤◌, refl, ℕ, min, List, [], ◌∷◌, Option, Some, None, Bool, true, false, cond, not, nat_le, nat_lt, arith}
 use Rattle.std.specs.List.{fold}
-use Rattle.std.proofs.lemmas.Bool.{leb-false}
+use Rattle.std.proofs.lemmas.Bool.{ltb-false, leb-false}
 use Rattle.kumo_base.specs.Limits.{latest_moment}
 use Rattle.throttle_spec.specs.Throttle.{Throttle}
 use Rattle.throttle_spec.specs.Rates.{least_by_rate}
@@ -26,6 +26,25 @@ admitted_by false true shed admitted u e = absurd cc
 admitted_by false false true admitted u e = absurd cc
 admitted_by false false false true u e = refl
 admitted_by false false false false u e = absurd cc
+
+not_stale_by : (stale spent shed admitted : Bool) (u : ℕ) → chosen stale spent shed admitted u ≡ Yes → stale ≡ false
+not_stale_by true spent shed admitted u e = absurd cc
+not_stale_by false spent shed admitted u e = refl
+
+not_shed_by : (stale spent shed admitted : Bool) (u : ℕ) → chosen stale spent shed admitted u ≡ Yes → shed ≡ false
+not_shed_by true spent shed admitted u e = absurd cc
+not_shed_by false true shed admitted u e = absurd cc
+not_shed_by false false true admitted u e = absurd cc
+not_shed_by false false false admitted u e = refl
+
+pub not_stale : (calls : List Call) (t conn : ℕ) (now : InForce) → leave calls t conn now ≡ Yes → is_stale calls t conn now ≡ false
+not_stale calls t conn now e =
+    not_stale_by (is_stale calls t conn now) (nat_le now.deliveries (used calls conn)) (nat_lt now.connection_limit (open_count calls)) (admits_beginning calls t now) _ e
+
+pub not_shed : (calls : List Call) (t conn : ℕ) (now : InForce) → leave calls t conn now ≡ Yes → open_count calls ≤ now.connection_limit
+not_shed calls t conn now e =
+    ltb-false now.connection_limit (open_count calls)
+    (not_shed_by (is_stale calls t conn now) (nat_le now.deliveries (used calls conn)) (nat_lt now.connection_limit (open_count calls)) (admits_beginning calls t now) _ e)
 
 pub not_spent : (calls : List Call) (t conn : ℕ) (now : InForce) → leave calls t conn now ≡ Yes → used calls conn < now.deliveries
 not_spent calls t conn now e =

@@ -3,3 +3,4 @@ pub mod ListLemmas
 pub mod CallLemmas
 pub mod StandingLemmas
 pub mod LeaveLemmas
+pub mod AllowedLemmas

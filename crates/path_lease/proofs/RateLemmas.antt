@@ -1,5 +1,5 @@
 -- What a bucket says of the moments that it took.
-use Rattle.std.proofs.Common.{◌≡◌, ◌↔◌, refl, sym, ap, subst, ◌∙◌, ℕ, List, [], ◌∷◌, ◌++◌, Bool, true, false, IsTrue, Option, Some}
+use Rattle.std.proofs.Common.{◌≡◌, ◌↔◌, refl, sym, ap, subst, ◌∙◌, ℕ, List, [], ◌∷◌, ◌++◌, Bool, true, false, IsTrue, Option, Some, inl, inr, None}
 use Rattle.kumo_base.specs.Moment.{clamped}
 use Rattle.throttle_spec.specs.Throttle.{Throttle, Conforms, conforms, least_admitted}
 use Rattle.throttle_spec.specs.Rates.{admits, least_by_rate}
@@ -7,6 +7,7 @@ use Rattle.throttle_spec.specs.Bucket as bucket
 use Rattle.throttle_spec.specs.Bucket.{BucketState, IsAdmitted}
 use Rattle.throttle_spec.proofs.BucketLemmas.{conforms_decides, room_decides}
 use Rattle.path_lease.specs.Standing.{IsCounted}
+use Rattle.path_lease.specs.Allowed.{Admits}
 
 same_answer : (s : Throttle) (moments : List ℕ) (b : Bool) → (IsTrue b ↔ Conforms s moments) → b ≡ conforms s moments
 same_answer s moments true both = sym ((conforms_decides s moments).1 (both.0 refl))
@@ -52,3 +53,19 @@ pub taken : (rate : Option Throttle) (s : Throttle) (moments : List ℕ) (t : �
     → IsCounted (Some s) moments (Some b) → IsCounted rate (moments ++ clamped t ∷ []) (Some now)
 taken rate s moments t b now is same takes counted =
     (is ∙ counted.0 ∙ ap Some (sym same), takes moments counted.1)
+
+-- what the moments admit, what is kept admits
+pub admits_kept : (rate : Option Throttle) (moments : List ℕ) (kept : Option BucketState) (t : ℕ) → IsCounted rate moments kept
+    → admits rate moments t ≡ true → Admits rate kept t
+admits_kept None moments kept t counted admitted = tt
+admits_kept (Some s) moments None t (inl none) admitted = absurd cc
+admits_kept (Some s) moments None t (inr none) admitted =
+    (conforms_decides s (clamped t ∷ [])).0 (ap (λ ms. conforms s (ms ++ clamped t ∷ [])) (sym none) ∙ admitted)
+admits_kept (Some s) moments (Some b) t counted admitted = may_take (Some s) s moments t b refl counted admitted
+
+-- a bucket that took nothing yet
+pub new_admits : (s : Throttle) (b : BucketState) (kept : Option BucketState) (t : ℕ) → kept ≡ None → b.throttle ≡ s → bucket.StandsFor b []
+    → IsAdmitted b t ↔ Admits (Some s) kept t
+new_admits s b kept t none same stands =
+    subst (λ k. IsAdmitted b t ↔ Admits (Some s) k t) (sym none)
+    (subst (λ x. IsAdmitted b t ↔ Conforms x (clamped t ∷ [])) same (room_decides b [] t stands))

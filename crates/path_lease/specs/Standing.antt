@@ -5,11 +5,9 @@ use Rattle.std.specs.Map.{lookup}
 use Rattle.throttle_spec.specs.Throttle.{Throttle}
 use Rattle.throttle_spec.specs.Bucket as bucket
 use Rattle.throttle_spec.specs.Bucket.{BucketState}
-use Rattle.policy_core.specs.declared.options.InForce.{InForce}
 use Rattle.path_lease.specs.declared.connection.Connection.{Connection}
-use Rattle.path_lease.specs.declared.leave.Leave.TheVariants.{Yes}
-use Rattle.path_lease.specs.Calls.{Call, Start, openings, openings_under, beginnings_under, was_opened, was_closed, is_open, is_idle, is_working, is_busy, open_count, used, idle_since, refusals}
-use Rattle.path_lease.specs.Leaves.{Rates, AgreesOn, may_open, leave}
+use Rattle.path_lease.specs.Calls.{Call, Start, openings, openings_under, beginnings_under, was_opened, was_closed, is_open, is_busy, open_count, used, idle_since, refusals}
+use Rattle.path_lease.specs.Leaves.{Rates}
 use Rattle.path_lease.specs.State.{PathState}
 
 -- what is kept under a number or a key
@@ -50,35 +48,3 @@ pub record StandsFor (p : PathState) (rates : Rates) (calls : List Call) : Type 
   pub refusals_within : refusals calls + open_count calls ≤ length (openings calls)
   pub distinct : are_distinct (openings calls) ≡ true
   pub untouched : (conn : ℕ) → was_opened calls conn ≡ false → IsUntouched calls conn
-
--- by some calls that the path stands for, a connection of a new number may be opened
-pub record MayOpen (p : PathState) (t conn : ℕ) (now : InForce) : Type 0 where
-  pub rates : Rates
-  pub calls : List Call
-  pub stands : StandsFor p rates calls
-  pub agrees : AgreesOn rates now
-  pub allowed : may_open calls t now ≡ true
-  pub unknown : was_opened calls conn ≡ false
-
--- by some calls that the path stands for, a connection is open and not busy
-pub record IsIdle (p : PathState) (conn : ℕ) : Type 0 where
-  pub rates : Rates
-  pub calls : List Call
-  pub stands : StandsFor p rates calls
-  pub idle : is_idle calls conn ≡ true
-
--- by some calls that the path stands for, a connection is open and busy
-pub record IsWorking (p : PathState) (conn : ℕ) : Type 0 where
-  pub rates : Rates
-  pub calls : List Call
-  pub stands : StandsFor p rates calls
-  pub busy : is_working calls conn ≡ true
-
--- by some calls that the path stands for, an attempt may begin on a connection that is open and not busy
-pub record MayBegin (p : PathState) (t conn : ℕ) (now : InForce) : Type 0 where
-  pub rates : Rates
-  pub calls : List Call
-  pub stands : StandsFor p rates calls
-  pub agrees : AgreesOn rates now
-  pub idle : is_idle calls conn ≡ true
-  pub allowed : leave calls t conn now ≡ Yes

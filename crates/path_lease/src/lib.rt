@@ -7,6 +7,7 @@
 #![tactic(auto)]
 
 mod connection;
+pub mod laws;
 mod leave;
 mod path;
 mod rates;

@@ -1,9 +1,10 @@
 //! A path, and what it allows.
-ghost use Rattle.std.specs.Prelude.{◌≡◌, ◌≤◌, ◌<◌, ◌+◌, ◌^◌, List, [], ◌∷◌, ◌++◌, length, false, OnOk};
-ghost use Rattle.path_lease.specs.Calls.{Call, opening, beginning, ending, closing, openings, was_opened, open_count, idle_since, is_idle, refusals};
+ghost use Rattle.std.specs.Prelude.{◌≡◌, ◌≤◌, ◌<◌, ◌+◌, ◌^◌, List, [], ◌∷◌, ◌++◌, length, false, IsTrue, ◌↔◌, OnOk};
+ghost use Rattle.path_lease.specs.Calls.{Call, opening, beginning, ending, closing, openings, was_opened, open_count, idle_since, is_idle, is_working, refusals};
 ghost use Rattle.path_lease.specs.Leaves.{Rates, AgreesOn, may_open, leave, next_admitted, after_or_latest};
 ghost use Rattle.path_lease.specs.State.{HasRoomToOpen, HasRoomToBegin, KeepsRoom};
-ghost use Rattle.path_lease.specs.Standing.{StandsFor, MayOpen, MayBegin, IsIdle, IsWorking};
+ghost use Rattle.path_lease.specs.Standing.{StandsFor};
+ghost use Rattle.path_lease.specs.Allowed.{MayOpen, MayBegin, IsIdle, IsBusy};
 
 use crate::connection::{Connection, Connections, begin_attempt, end_attempt, is_past};
 use crate::leave::Leave;
@@ -77,8 +78,9 @@ impl Path {
 
     /// Whether a connection may be opened: fewer are open than `connection_limit`, and both throttles admit the moment.
     pub fn may_open(&self, t: u64, now: &InForce) -> bool
-        ensures { (rates : Rates) (calls : List Call) → StandsFor self.now rates calls → AgreesOn rates now.now
+        ensures exact { (rates : Rates) (calls : List Call) → StandsFor self.now rates calls → AgreesOn rates now.now
             → result ≡ may_open calls t now.now }
+        ensures word { IsTrue result → MayOpen self.now t now.now }
     {
         self.connections.len() < now.connection_limit as usize
             && admits(&self.opened, now.connection_rate, now.connection_key, t)
@@ -88,7 +90,7 @@ impl Path {
     /// Opens a connection of a number that none had before, where `may_open` allows it. It takes no memory: `reserve` has
     /// made room.
     pub fn open(&mut self, t: u64, conn: u64, now: &InForce)
-        requires allowed { MayOpen self.old t conn now.now }
+        requires allowed { MayOpen self.old t now.now }
         requires room { HasRoomToOpen self.old }
         ensures stands { (rates : Rates) (calls : List Call) → StandsFor self.old rates calls → AgreesOn rates now.now
             → was_opened calls conn ≡ false → StandsFor self.new rates (calls ++ opening t conn now.now.connection_key ∷ []) }
@@ -104,11 +106,34 @@ impl Path {
         count(&mut self.opened, now.connection_rate, now.connection_key, t);
     }
 
+    /// Whether a connection is open and not busy.
+    pub fn is_idle(&self, conn: u64) -> bool
+        ensures exact { (rates : Rates) (calls : List Call) → StandsFor self.now rates calls → result ≡ is_idle calls conn }
+        ensures word { IsTrue result ↔ IsIdle self.now conn }
+    {
+        match self.connections.get(&conn) {
+            Some(connection) => !connection.busy,
+            None => false,
+        }
+    }
+
+    /// Whether a connection is open and busy: the last attempt that began on it has not ended.
+    pub fn is_busy(&self, conn: u64) -> bool
+        ensures exact { (rates : Rates) (calls : List Call) → StandsFor self.now rates calls → result ≡ is_working calls conn }
+        ensures word { IsTrue result ↔ IsBusy self.now conn }
+    {
+        match self.connections.get(&conn) {
+            Some(connection) => connection.busy,
+            None => false,
+        }
+    }
+
     /// Whether an attempt may begin on a connection, which is open and not busy, else the first reason why not.
     pub fn may_begin(&self, t: u64, conn: u64, now: &InForce) -> Leave
         requires { IsIdle self.now conn }
-        ensures { (rates : Rates) (calls : List Call) → StandsFor self.now rates calls → AgreesOn rates now.now
+        ensures exact { (rates : Rates) (calls : List Call) → StandsFor self.now rates calls → AgreesOn rates now.now
             → result ≡ leave calls t conn now.now }
+        ensures word { result ≡ Leave.Yes → MayBegin self.now t conn now.now }
     {
         let connection = self.connections[&conn];
         if is_past(now.idle_timeout, connection.idle, t) {
@@ -142,7 +167,7 @@ impl Path {
 
     /// The attempt on a connection, which is open and busy, ends. It takes no memory.
     pub fn end(&mut self, t: u64, conn: u64)
-        requires { IsWorking self.old conn }
+        requires { IsBusy self.old conn }
         ensures stands { (rates : Rates) (calls : List Call) → StandsFor self.old rates calls
             → StandsFor self.new rates (calls ++ ending t conn ∷ []) }
         ensures room { KeepsRoom self.old self.new }

@@ -21,27 +21,27 @@ first_fails : (a b x : Bool) → a ≡ false → false ≡ (a && b && x)
 first_fails true b x q = absurd cc
 first_fails false b x q = refl
 
-pub returns-then-admits : goal.returns-then-admits
-returns-then-admits c = λ rates calls is agrees.
+pub returns-then-admits-clause-exact : goal.returns-then-admits-clause-exact
+returns-then-admits-clause-exact c = λ rates calls is agrees.
     let now = c.args.now.now in
     let stands = subst (λ p. StandsFor p rates calls) (sym c.self.view_is) is in
     elim c.if-len-now.branch [
       | then-len-now w ↦
           let below : open_count calls < now.connection_limit = omega (arith, w.if-len-now.true, c.len.ensures.len, stands.count) in
-          let first = w.admits.ensures (openings_under calls now.connection_key) (opening_at _ rates calls now stands agrees) in
-          c.admits-then-admits.ensures (beginnings_under calls now.message_key) (beginning_at _ rates calls now stands agrees)
+          let first = w.admits.ensures.exact (openings_under calls now.connection_key) (opening_at _ rates calls now stands agrees) in
+          c.admits-then-admits.ensures.exact (beginnings_under calls now.message_key) (beginning_at _ rates calls now stands agrees)
           ∙ last_decides (nat_lt (open_count calls) now.connection_limit) (admits_opening calls c.args.t now) (admits_beginning calls c.args.t now)
           (lt-ltb (open_count calls) now.connection_limit below) (sym first ∙ sym w.value-is ∙ c.if-admits.true)
       | else-len-now w ↦ absurd (true≢false (sym c.if-admits.true ∙ w.value-is ∙ le-ltb c.len.result now.connection_limit w.if-len-now.false))
     ]
 
-pub returns-else-admits : goal.returns-else-admits
-returns-else-admits c = λ rates calls is agrees.
+pub returns-else-admits-clause-exact : goal.returns-else-admits-clause-exact
+returns-else-admits-clause-exact c = λ rates calls is agrees.
     let now = c.args.now.now in
     let stands = subst (λ p. StandsFor p rates calls) (sym c.self.view_is) is in
     c.if-admits.false ∙ elim c.if-len-now.branch [
       | then-len-now w ↦
-          let first = w.admits.ensures (openings_under calls now.connection_key) (opening_at _ rates calls now stands agrees) in
+          let first = w.admits.ensures.exact (openings_under calls now.connection_key) (opening_at _ rates calls now stands agrees) in
           second_fails (nat_lt (open_count calls) now.connection_limit) (admits_opening calls c.args.t now) (admits_beginning calls c.args.t now)
           (sym first ∙ sym w.value-is ∙ c.if-admits.false)
       | else-len-now w ↦

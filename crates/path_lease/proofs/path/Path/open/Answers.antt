@@ -1,10 +1,10 @@
-use Rattle.std.proofs.Common.{◌≡◌, ◌+◌, ◌∷◌, ◌++◌, [], ◌&&◌, cond, refl, sym, ap, subst, ◌∙◌, nat_eq, nat_lt, is_some, Option, None, ℕ, Result, Ok, Err, OnOk, IfOk, IsOk, arith}
-use Rattle.std.proofs.lemmas.Bool.{true≢false, and_parts}
+use Rattle.std.proofs.Common.{◌≡◌, ◌+◌, ◌∷◌, ◌++◌, [], cond, refl, sym, ap, subst, ◌∙◌, nat_eq, is_some, Option, None, ℕ, Result, Ok, Err, OnOk, IfOk, IsOk, arith}
+use Rattle.std.proofs.lemmas.Bool.{true≢false}
 use Rattle.kumo_base.specs.Moment.{clamped}
 use Rattle.indexmap.specs.IndexMap.{get, index_map_len}
-use Rattle.path_lease.specs.Calls.{openings_under, open_count}
-use Rattle.path_lease.specs.Leaves.{admits_opening, admits_beginning}
-use Rattle.path_lease.specs.Standing.{IsCounted, StandsFor}
+use Rattle.path_lease.specs.Calls.{openings_under}
+use Rattle.path_lease.specs.Standing.{kept_at, IsCounted, StandsFor}
+use Rattle.path_lease.specs.Allowed.{Admits}
 use Rattle.path_lease.proofs.StandingLemmas.{opened_one, not_kept}
 use Rattle.path_lease.proofs.path.Path.open.Goals as goal
 
@@ -21,16 +21,8 @@ one_more (Err e) p a b is old none len = absurd (true≢false (sym is))
 
 pub count-requires-clause-admitted : goal.count-requires-clause-admitted
 count-requires-clause-admitted c =
-    let a = c.requires.allowed in
-    let key = c.args.now.now.connection_key in
-    let first = and_parts (nat_lt (open_count a.calls) c.args.now.now.connection_limit && admits_opening a.calls c.args.t c.args.now.now) (admits_beginning a.calls c.args.t c.args.now.now) a.allowed in
-    let second = and_parts (nat_lt (open_count a.calls) c.args.now.now.connection_limit) (admits_opening a.calls c.args.t c.args.now.now) first.0 in
-    let stands = subst (λ p. StandsFor p a.rates a.calls) (sym c.self.view_is) a.stands in
-    record {
-      moments = openings_under a.calls key;
-      counted = subst (λ r. IsCounted r (openings_under a.calls key) (get nat_eq c.self.inside.opened key)) a.agrees.connection (stands.opened key);
-      admitted = second.1;
-    }
+    let now = c.args.now.now in
+    subst (λ p. Admits now.connection_rate (kept_at p.opened now.connection_key) c.args.t) (sym c.self.view_is) c.requires.allowed.connection
 
 pub returns-clause-stands : goal.returns-clause-stands
 returns-clause-stands c = λ rates calls is agrees unknown.
