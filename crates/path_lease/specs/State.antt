@@ -1,5 +1,5 @@
 -- What a path keeps of the calls made on it.
-use Rattle.std.specs.Prelude.{ℕ, ◌<◌, ◌≤◌, List}
+use Rattle.std.specs.Prelude.{ℕ, ◌≡◌, ◌<◌, ◌≤◌, List}
 use Rattle.throttle_spec.specs.Bucket.{BucketState}
 use Rattle.path_lease.specs.declared.connection.Connection.{Connection}
 
@@ -24,3 +24,10 @@ HasRoomToBegin p = 0 < p.room_to_begin
 pub record KeepsRoom (old new : PathState) : Type 0 where
   pub to_open : old.room_to_open ≤ new.room_to_open
   pub to_begin : old.room_to_begin ≤ new.room_to_begin
+
+-- all but the room is as it was
+pub record IsSameButRoom (old new : PathState) : Type 0 where
+  pub connections : new.connections ≡ old.connections
+  pub opened : new.opened ≡ old.opened
+  pub begun : new.begun ≡ old.begun
+  pub refusals : new.refusals ≡ old.refusals

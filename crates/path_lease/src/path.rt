@@ -2,7 +2,7 @@
 ghost use Rattle.std.specs.Prelude.{◌≡◌, ◌≤◌, ◌<◌, ◌+◌, ◌^◌, List, [], ◌∷◌, ◌++◌, length, false, IsTrue, ◌↔◌, OnOk};
 ghost use Rattle.path_lease.specs.Calls.{Call, opening, beginning, ending, closing, openings, was_opened, open_count, idle_since, is_idle, is_working, refusals};
 ghost use Rattle.path_lease.specs.Leaves.{Rates, AgreesOn, may_open, leave, next_admitted, after_or_latest};
-ghost use Rattle.path_lease.specs.State.{HasRoomToOpen, HasRoomToBegin, KeepsRoom};
+ghost use Rattle.path_lease.specs.State.{HasRoomToOpen, HasRoomToBegin, KeepsRoom, IsSameButRoom};
 ghost use Rattle.path_lease.specs.Standing.{StandsFor};
 ghost use Rattle.path_lease.specs.Allowed.{MayOpen, MayBegin, IsIdle, IsBusy};
 
@@ -18,8 +18,8 @@ use std::marker::Model;
 /// The limits of a path over the calls made on it. Moments are milliseconds since 1970. Each call takes constant time,
 /// however many were made before.
 ///
-/// A key of a throttle comes with the same throttle in all calls, or with none in all: the answers are promised where the
-/// options in force agree in this with those of the calls before.
+/// A key of a throttle comes with the same throttle in all calls, or with none in all, and no number is opened twice: the
+/// answers are promised where the calls keep to this. Moments may come in any order.
 #[derive(Drop)]
 pub struct Path {
     /// The open connections.
@@ -66,6 +66,7 @@ impl Path {
     /// `Memory`.
     pub fn reserve(&mut self) -> Result<(), Memory>
         ensures stands { (rates : Rates) (calls : List Call) → StandsFor self.old rates calls → StandsFor self.new rates calls }
+        ensures same { IsSameButRoom self.old self.new }
         ensures to_open { OnOk result (HasRoomToOpen self.new) }
         ensures to_begin { OnOk result (HasRoomToBegin self.new) }
         ensures room { KeepsRoom self.old self.new }
