@@ -12,7 +12,7 @@ use Rattle.policy_core.specs.declared.options.InForce.{InForce}
 use Rattle.path_lease.specs.Leaves.{Rates, AgreesOn}
 use Rattle.path_lease.specs.State.{PathState}
 use Rattle.path_lease.specs.Standing.{kept_at, connection_of, IsCounted, StandsFor, are_distinct}
-use Rattle.path_lease.specs.inside.Kept.{with_attempt, at_rest}
+use Rattle.path_lease.specs.inside.Kept.{with_attempt, at_rest, refusals_with}
 use Rattle.path_lease.proofs.ListLemmas.{or_false, any_more, count_more, distinct_more, one_less, has}
 use Rattle.path_lease.proofs.CallLemmas.{from_parts, by_parts, closed_more, closed_same, busy_more, idle_more, refusals_more, openings_more, openings_same, beginnings_more, beginnings_same, open_among, open_alike, open_same, open_more, under_more}
 
@@ -268,10 +268,6 @@ ended_one p now rates calls t n w is here updates len opened begun same =
 
     known : was_opened calls n ≡ true
     known = opened_since calls n w (sym (is.connections n) ∙ here)
-
-abbrev pub refusals_with : Bool → ℕ → ℕ
-refusals_with true was = min (was + 1) (2 ^ 32 - 1)
-refusals_with false was = 0
 
 pub closed_one : (p now : PathState) (rates : Rates) (calls : List Call) (n : ℕ) (refused : Bool) → StandsFor p rates calls → is_open calls n ≡ true
     → ((q : ℕ) → kept_at now.connections q ≡ cond (nat_eq n q) None (kept_at p.connections q))

@@ -5,6 +5,7 @@ ghost use Rattle.path_lease.specs.Leaves.{Rates, AgreesOn, may_open, leave, next
 ghost use Rattle.path_lease.specs.State.{HasRoomToOpen, HasRoomToBegin, KeepsRoom, IsSameButRoom};
 ghost use Rattle.path_lease.specs.Standing.{StandsFor};
 ghost use Rattle.path_lease.specs.Allowed.{MayOpen, MayBegin, IsIdle, IsBusy};
+ghost use Rattle.path_lease.specs.inside.Kept.{refusals_with};
 
 use crate::connection::{Connection, Connections, begin_attempt, end_attempt, is_past};
 use crate::leave::Leave;
@@ -193,11 +194,7 @@ impl Path {
         ensures room { KeepsRoom self.old self.new }
     {
         let _closed = self.connections.swap_remove(&conn);
-        self.refusals = if refused {
-            self.refusals.saturating_add(1)
-        } else {
-            0
-        };
+        self.refusals = refusals_after(self.refusals, refused);
     }
 
     /// How many connections were refused since one was closed for another cause. The greatest number where there were more,
@@ -234,4 +231,14 @@ fn after_or_latest(moment: u64, t: u64) -> u64
     ensures { result ≡ after_or_latest t moment }
 {
     if t < moment { moment } else { LAST_MOMENT }
+}
+
+/// How many connections were refused in a row, after one more was closed.
+fn refusals_after(before: u32, refused: bool) -> u32
+    ensures { result ≡ refusals_with refused before }
+{
+    if !refused {
+        return 0;
+    }
+    before.saturating_add(1)
 }

@@ -3,9 +3,8 @@ use Rattle.indexmap.specs.IndexMap.{get, index_map_len}
 use Rattle.path_lease.specs.Standing.{kept_at, StandsFor}
 use Rattle.path_lease.specs.Allowed.{IsIdle}
 use Rattle.path_lease.proofs.AllowedLemmas.{at_rest_kept}
-use Rattle.path_lease.proofs.StandingLemmas.{closed_one, open_by, refusals_with}
+use Rattle.path_lease.proofs.StandingLemmas.{closed_one, open_by}
 use Rattle.path_lease.proofs.path.Path.close.Goals as goal
-use Rattle.path_lease.proofs.path.Path.close.Goals.{then-refused, else-refused}
 
 -- one entry less, where what was taken out was there
 less_one : {T : Type 0} (o p : Option T) (w : T) (a b : ℕ) → o ≡ p → p ≡ Some w → a + cond (is_some o) 1 0 ≡ b → a + 1 ≡ b
@@ -16,11 +15,7 @@ returns-clause-stands c = λ rates calls is.
     let stands = subst (λ p. StandsFor p rates calls) (sym c.self.view_is) is in
     let there = at_rest_kept (kept_at c.self.inside.connections.entries c.args.conn) (subst (λ p. IsIdle p c.args.conn) (sym c.self.view_is) c.requires) in
     let e = c.swap_remove-closed.ensures in
-    let left : c.if-refused.self ≡ refusals_with c.args.refused c.self.inside.refusals = elim c.if-refused.branch [
-      | then-refused w ↦ w.self-is ∙ w.saturating_add-self-inside.ensures ∙ ap (λ b. refusals_with b c.self.inside.refusals) (sym w.if-refused.true)
-      | else-refused w ↦ w.self-is ∙ ap (λ b. refusals_with b c.self.inside.refusals) (sym w.if-refused.false)
-    ] in
     closed_one _ _ rates calls c.args.conn c.args.refused stands (open_by _ rates calls c.args.conn there.0 stands there.1)
     e.updates.0
     (less_one c.swap_remove-closed.result (get nat_eq c.self.inside.connections c.args.conn) there.0 (index_map_len c.swap_remove-closed.new.self) (index_map_len c.self.inside.connections) e.value there.1 e.len)
-    refl refl left
+    refl refl c.refusals_after-self-inside.ensures
