@@ -6,6 +6,8 @@
 #![tactic(auto)]
 
 #[cfg(test)]
+mod leases;
+#[cfg(test)]
 mod numbers;
 #[cfg(test)]
 mod orders;

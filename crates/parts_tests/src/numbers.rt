@@ -1,4 +1,5 @@
 //! Numbers that look like chance and are the same in every run.
+ghost use Rattle.std.specs.Prelude.{◌≤◌, ◌<◌};
 
 /// A linear congruential generator (the constants of Knuth's MMIX), whose upper bits are taken.
 #[derive(Drop)]
@@ -15,6 +16,7 @@ impl Numbers {
     /// The next one below an end.
     pub(crate) fn below(&mut self, end: u32) -> u32
         requires { 1 ≤ end }
+        ensures { result < end }
     {
         self.state = self
             .state

@@ -56,7 +56,12 @@ fn plain_first(list: &[u32], mark: u32) -> Option<u32> {
 }
 
 /// One made call on both, the queue and the plain list.
-fn make_call(rt: &impl Abort, numbers: &mut Numbers, ready: &mut Ready, list: &mut Vec<u32>) -> Result<(), Fail> {
+fn make_call(
+    rt: &impl Abort,
+    numbers: &mut Numbers,
+    ready: &mut Ready,
+    list: &mut Vec<u32>,
+) -> Result<(), Fail> {
     let number = numbers.below(60);
     let place = list.iter().position(|other| *other == number);
     match numbers.below(3) {

@@ -62,7 +62,10 @@ fn plain_first(list: &[Waiting], t: u64) -> Option<u32> {
 
 /// The least due moment after another.
 fn plain_next(list: &[Waiting], t: u64) -> Option<u64> {
-    list.iter().map(|waiting| waiting.0).filter(|due| *due > t).min()
+    list.iter()
+        .map(|waiting| waiting.0)
+        .filter(|due| *due > t)
+        .min()
 }
 
 /// One made call on both, the schedule and the plain list.
@@ -87,8 +90,14 @@ fn make_call(
             list.retain(|waiting| waiting.1 != number);
         }
         _ => {
-            assert_eq!(rt; schedule.first_due(due), plain_first(list, due.min(LAST_MOMENT)));
-            assert_eq!(rt; schedule.next_due(due), plain_next(list, due.min(LAST_MOMENT)));
+            assert_eq!(rt;
+                schedule.first_due(due),
+                plain_first(list, due.min(LAST_MOMENT))
+            );
+            assert_eq!(rt;
+                schedule.next_due(due),
+                plain_next(list, due.min(LAST_MOMENT))
+            );
         }
     }
     Ok(())

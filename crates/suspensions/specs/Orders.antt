@@ -1,20 +1,12 @@
 -- The orders of an administrator that were given, and which of them are live (KumoMTA's manual, administrative suspensions and
 -- bounces).
-use Rattle.std.specs.Prelude.{⊤, ℕ, ◌+◌, ◌==◌, ◌&&◌, ◌++◌, ◌∷◌, [], List, Bool, true, false, not, Option, Some, None, option_map, if◌then◌else◌, find, filter, map, length, min}
+use Rattle.std.specs.Prelude.{ℕ, ◌+◌, ◌==◌, ◌&&◌, ◌++◌, ◌∷◌, [], List, Bool, true, false, not, Option, Some, None, option_map, if◌then◌else◌, find, filter, map, length, min}
 use Rattle.std.specs.List.{list_any}
 use Rattle.std.specs.Option.{option_map_or}
 use Rattle.queue_name.specs.QueueName.{Name}
 use Rattle.policy_core.specs.declared.orders.Order.{Order}
-use Rattle.policy_core.specs.declared.orders.Order.TheVariants.{Suspend, SuspendReady, Bounce, Resume}
 use Rattle.policy_core.specs.LiveOrders.{is_during, end_of, duration_of, holds, bounces, halts}
 use Rattle.suspensions.specs.declared.given.Given.{Given}
-
--- a resumption is no order that is given
-abbrev pub IsGivable : Order → Type 0
-IsGivable (Suspend criteria reason duration) = ⊤
-IsGivable (SuspendReady path reason duration) = ⊤
-IsGivable (Bounce criteria reason duration) = ⊤
-IsGivable (Resume number) = ⊥
 
 -- from its moment on, for its duration, unless it was resumed
 abbrev pub is_live : ℕ → Given → Bool

@@ -1,6 +1,6 @@
 //! The orders of an administrator: all that were given, and beside them the ends of those that were not taken back.
 ghost use Rattle.std.specs.Prelude.{◌≡◌, ◌<◌, ◌+◌, ◌^◌, [], is_ok, length, IfOk, IfSome, OnOk, OnErr};
-ghost use Rattle.suspensions.specs.Orders.{IsGivable, bounced, halted, has_live, held, next_end, with_order, with_resumed};
+ghost use Rattle.suspensions.specs.Orders.{bounced, halted, has_live, held, next_end, with_order, with_resumed};
 
 use crate::ends::{Ending, count_over, first_live, live_end, next_end, place_of};
 use crate::given::{Given, end_of};
@@ -47,9 +47,8 @@ impl Book {
     }
 
     /// One more order is given, and gets the answer as its number: the first one 1, each other one more than the one before.
-    /// After `Memory` all is as it was.
+    /// A `Resume` is never live. After `Memory` all is as it was.
     pub fn add(&mut self, at: u64, order: Order) -> Result<u32, Memory>
-        requires order { IsGivable order }
         requires room { length self.old + 1 < 2 ^ 32 }
         ensures number { IfOk result (λ number. number ≡ length self.old + 1) }
         ensures ok { OnOk result (self.new ≡ with_order at order self.old) }
@@ -67,6 +66,13 @@ impl Book {
             resumed: false,
         });
         Ok(number)
+    }
+
+    /// How many orders were given, those that are over and those that were taken back among them.
+    pub fn len(&self) -> usize
+        ensures { result ≡ length self.now }
+    {
+        self.given.len()
     }
 
     /// The order of this number is live no longer. It is `Unknown` exactly where no order that is live at `t` has the number;
