@@ -1,13 +1,25 @@
 -- What an automaton keeps of the matches that it was told.
-use Rattle.std.specs.Prelude.{◌≤◌, ℕ, List, [], ◌∷◌, ⊤}
+use Rattle.std.specs.Prelude.{◌≤◌, ℕ, List, [], ◌∷◌, ⊤, map, Bool, true, false, Option, None, nat_lt, if◌then◌else◌}
 use Rattle.std.specs.List.{AllByRecursion}
+use Rattle.queue_name.specs.QueueName.{Name}
+use Rattle.policy_core.specs.LiveOrders.{end_of}
+use Rattle.policy_core.specs.declared.rules.Rule.{Rule}
+use Rattle.policy_core.specs.declared.rules.Action.{Action}
+use Rattle.policy_core.specs.declared.rules.Action.TheVariants.{SuspendTenant, SuspendCampaign}
 use Rattle.policy_core.specs.declared.rules.Trigger.{Trigger}
 use Rattle.policy_core.specs.declared.rules.Trigger.TheVariants.{Immediate, Threshold}
+use Rattle.automation_rules.specs.declared.firing.Firing.{Firing}
 
 -- the last of some moments, and how many of them there are at most
 pub record LastMoments : Type 0 where
   pub most : ℕ
   pub moments : List ℕ
+
+-- of one rule: its last match moments, and firings
+pub record RuleMemory : Type 0 where
+  pub most : ℕ
+  pub moments : List ℕ
+  pub firings : List Firing
 
 -- how many moments a trigger looks back on
 abbrev pub looks_back : Trigger → ℕ
@@ -18,3 +30,28 @@ looks_back (Threshold count period) = count
 abbrev pub IsAscending : List ℕ → Type 0
 IsAscending [] = ⊤
 IsAscending (s ∷ later) = AllByRecursion (λ t. s ≤ t) later × IsAscending later
+
+-- it holds messages back by tenant or campaign
+abbrev pub is_covering : Action → Bool
+is_covering SuspendTenant = true
+is_covering SuspendCampaign = true
+is_covering _ = false
+
+-- what is kept of a firing of a rule at a moment, by the reply to a message of a queue
+abbrev pub kept_firing : Rule → ℕ → Name → Firing
+kept_firing rule t name = record {
+  end = end_of t rule.duration;
+  tenant = if is_covering rule.action then name.tenant else None;
+  campaign = if is_covering rule.action then name.campaign else None;
+}
+
+-- a name of what is kept; coverage does not look at domains
+abbrev pub name_kept : Firing → Name
+name_kept f = record { campaign = f.campaign; tenant = f.tenant; domain = [] }
+
+abbrev pub ends_of : List Firing → List ℕ
+ends_of firings = map (λ f. f.end) firings
+
+-- it is not over
+abbrev pub is_live : ℕ → Firing → Bool
+is_live t f = nat_lt t f.end

@@ -1,2 +1,3 @@
 -- What private functions and proofs cite. No public clause does.
 pub mod Last
+pub mod Noting

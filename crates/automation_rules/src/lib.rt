@@ -5,4 +5,6 @@
 //! matches, as many as its trigger looks back on, and those of its firings that are not over yet.
 #![tactic(auto)]
 
+mod firing;
 mod ring;
+mod rule_state;

@@ -1,0 +1,114 @@
+-- Firings that end in order: which of them are not over, and whether the last one is.
+use Rattle.std.proofs.Common.{◌≡◌, ◌≤◌, ◌<◌, ◌+◌, ◌-◌, ◌⊎◌, inl, inr, ℕ, zero, suc, refl, sym, ap, ◌∙◌, subst, arith, Bool, true, false, ◌||◌, cond, Option, Some, None, List, [], ◌∷◌, ◌++◌, length, take, drop, filter, map, get_or, nat_lt, nat_le}
+use Rattle.std.specs.List.{All, AllWithin, AllByRecursion, list_any}
+use Rattle.std.specs.List.Sorted.{IsPartitionedBy, IsPartitionPoint}
+use Rattle.std.proofs.lemmas.List.{get_or_default}
+use Rattle.std.proofs.lemmas.Bool.{cases_lt, leb-true, le-leb, false≢true}
+use Rattle.std.proofs.lemmas.List.Elements.{All-from_recursion}
+use Rattle.automation_rules.specs.declared.firing.Firing.{Firing}
+use Rattle.automation_rules.specs.Memory.{IsAscending, is_live, ends_of}
+use Rattle.automation_rules.specs.inside.Noting.{is_by}
+
+lives : (t : ℕ) (f : Firing) → t < f.end → is_live t f ≡ true
+lives t f below = le-leb (suc t) f.end (omega arith)
+
+is_lower : (t : ℕ) (f : Firing) → is_live t f ≡ true → t < f.end
+is_lower t f is = omega (arith, leb-true (suc t) f.end is)
+
+is_over : (t : ℕ) (f : Firing) → f.end ≤ t → is_live t f ≡ false
+is_over t f below = by (is_live t f) refl where
+  by : (b : Bool) → is_live t f ≡ b → is_live t f ≡ false
+  by false is = is
+  by true is = absurd (omega (arith, leb-true (suc t) f.end is))
+
+-- what ends at e or later, at a place
+end_at : (e : ℕ) (fs : List Firing) (i : ℕ) (d : Firing) → AllByRecursion (λ u. e ≤ u) (ends_of fs) → i < length fs → e ≤ (get_or fs i d).end
+end_at e [] i d above below = absurd (omega arith)
+end_at e (f ∷ fs) zero d above below = above.0
+end_at e (f ∷ fs) (suc i) d above below = end_at e fs i d above.1 (omega arith)
+
+pub ends_in_order : (fs : List Firing) (i j : ℕ) (d : Firing) → IsAscending (ends_of fs) → i ≤ j → j < length fs → (get_or fs i d).end ≤ (get_or fs j d).end
+ends_in_order [] i j d order before below = absurd (omega arith)
+ends_in_order (f ∷ fs) zero zero d order before below = omega arith
+ends_in_order (f ∷ fs) zero (suc j) d order before below = end_at f.end fs j d order.0 (omega arith)
+ends_in_order (f ∷ fs) (suc i) zero d order before below = absurd (omega arith)
+ends_in_order (f ∷ fs) (suc i) (suc j) d order before below = ends_in_order fs i j d order.1 (omega arith) (omega arith)
+
+-- whether the last one is not over tells whether any is
+all_over : (t : ℕ) (fs : List Firing) → ((i : ℕ) (d : Firing) → i < length fs → (get_or fs i d).end ≤ t) → list_any (is_live t) fs ≡ false
+all_over t [] over = refl
+all_over t (f ∷ fs) over = rw (is_over t f (over 0 f (omega arith)), all_over t fs (λ i d below. over (suc i) d (omega arith))) refl
+
+any_at : (t : ℕ) (fs : List Firing) (i : ℕ) (d : Firing) → i < length fs → is_live t (get_or fs i d) ≡ true → list_any (is_live t) fs ≡ true
+any_at t [] i d below is = absurd (omega arith)
+any_at t (f ∷ fs) zero d below is = ap (λ b. b || list_any (is_live t) fs) is
+any_at t (f ∷ fs) (suc i) d below is = ap (λ b. is_live t f || b) (any_at t fs i d (omega arith) is) ∙ or_true (is_live t f) where
+  or_true : (b : Bool) → (b || true) ≡ true
+  or_true true = refl
+  or_true false = refl
+
+pub last_tells : (t : ℕ) (fs : List Firing) (x : Firing) → IsAscending (ends_of fs) → 0 < length fs → x ≡ get_or fs (length fs - 1) x
+    → is_live t x ≡ list_any (is_live t) fs
+last_tells t fs x order some at = by (cases_lt t x.end) where
+  last : (i : ℕ) (d : Firing) → i < length fs → (get_or fs i d).end ≤ x.end
+  last i d below =
+      let here = ends_in_order fs i (length fs - 1) d order (omega arith) (omega arith) in
+      let same = ap (λ (f : Firing). f.end) (get_or_default fs (length fs - 1) d x (omega arith) ∙ sym at) in
+      omega (arith, here, same)
+
+  by : (t < x.end) ⊎ (x.end ≤ t) → is_live t x ≡ list_any (is_live t) fs
+  by (inl below) =
+      lives t x below ∙ sym (any_at t fs (length fs - 1) x (omega arith) (ap (is_live t) (sym at) ∙ lives t x below))
+  by (inr past) = is_over t x past ∙ sym (all_over t fs (λ i d below. omega (arith, last i d below)))
+
+-- those from a place on, where those before it are over and those from it on are not
+all_live : (t : ℕ) (fs : List Firing) → ((i : ℕ) (d : Firing) → i < length fs → t < (get_or fs i d).end) → filter (is_live t) fs ≡ fs
+all_live t [] live = refl
+all_live t (f ∷ fs) live =
+    rw (lives t f (live 0 f (omega arith)), all_live t fs (λ i d below. live (suc i) d (omega arith))) refl
+
+split_live : (t : ℕ) (fs : List Firing) (i : ℕ) → ((k : ℕ) (d : Firing) → k < i → (get_or fs k d).end ≤ t)
+    → ((k : ℕ) (d : Firing) → i ≤ k → k < length fs → t < (get_or fs k d).end) → drop i fs ≡ filter (is_live t) fs
+split_live t [] zero over live = refl
+split_live t [] (suc i) over live = refl
+split_live t (f ∷ fs) zero over live = sym (all_live t (f ∷ fs) (λ k d below. live k d (omega arith) below))
+split_live t (f ∷ fs) (suc i) over live =
+    split_live t fs i (λ k d below. over (suc k) d (omega arith)) (λ k d from below. live (suc k) d (omega arith) (omega arith))
+    ∙ sym (ap (λ b. cond b (f ∷ filter (is_live t) fs) (filter (is_live t) fs)) (is_over t f (over 0 f (omega arith))))
+
+le_false : (a b : ℕ) → nat_le a b ≡ false → b < a
+le_false a b is = by (cases_lt b a) where
+  by : (b < a) ⊎ (a ≤ b) → b < a
+  by (inl below) = below
+  by (inr above) = absurd (false≢true (sym is ∙ le-leb a b above))
+
+pub parted_live : (t : ℕ) (fs : List Firing) (i : ℕ) → IsPartitionPoint (λ f. nat_le f.end t ≡ true) (λ f. nat_le f.end t ≡ false) fs i
+    → drop i fs ≡ filter (is_live t) fs
+parted_live t fs i point =
+    split_live t fs i (λ k d below. leb-true _ _ (point.0 k d (omega arith) below)) (λ k d from below. le_false _ _ (point.1 k d from below))
+
+pub parted_by_end : (t : ℕ) (fs : List Firing) → IsAscending (ends_of fs) → IsPartitionedBy (λ f. nat_le f.end t) fs
+parted_by_end t fs order i j d before below is = le-leb _ _ (omega (arith, ends_in_order fs i j d order before below, leb-true _ _ is))
+
+-- the first of them ends first
+none_by : (u : ℕ) (fs : List Firing) → AllByRecursion (λ e. u < e) (ends_of fs) → list_any (λ f. nat_le f.end u) fs ≡ false
+none_by u [] later = refl
+none_by u (f ∷ fs) later = rw (not_by, none_by u fs later.1) refl where
+  not_by : nat_le f.end u ≡ false
+  not_by = by (nat_le f.end u) refl where
+    by : (b : Bool) → nat_le f.end u ≡ b → nat_le f.end u ≡ false
+    by false is = is
+    by true is = absurd (omega (arith, leb-true f.end u is, later.0))
+
+later_than : (u e : ℕ) (es : List ℕ) → u < e → AllByRecursion (λ w. e ≤ w) es → AllByRecursion (λ w. u < w) es
+later_than u e [] below above = tt
+later_than u e (x ∷ es) below above = (omega (arith, above.0), later_than u e es below above.1)
+
+pub first_tells : (u i : ℕ) (fs : List Firing) (x : Firing) → IsAscending (ends_of fs) → i < length fs → x ≡ get_or fs i x
+    → nat_le x.end u ≡ list_any (λ f. nat_le f.end u) (drop i fs)
+first_tells u i [] x order below at = absurd (omega arith)
+first_tells u (suc i) (f ∷ fs) x order below at = first_tells u i fs x order.1 (omega arith) at
+first_tells u zero (f ∷ fs) x order below at = ap (λ (g : Firing). nat_le g.end u) at ∙ by (nat_le f.end u) refl where
+  by : (b : Bool) → nat_le f.end u ≡ b → nat_le f.end u ≡ (nat_le f.end u || list_any (λ f. nat_le f.end u) fs)
+  by true is = rw is refl
+  by false is = is ∙ sym (rw (is, none_by u fs (later_than u f.end (ends_of fs) (le_false f.end u is) order.0)) refl)
