@@ -1,2 +1,4 @@
 pub mod WindowLemmas
 pub mod FiringLemmas
+pub mod RuleWalks
+pub mod AnyLemmas

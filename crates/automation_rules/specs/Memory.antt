@@ -2,7 +2,8 @@
 use Rattle.std.specs.Prelude.{◌≤◌, ℕ, List, [], ◌∷◌, ⊤, map, Bool, true, false, Option, None, nat_lt, if◌then◌else◌}
 use Rattle.std.specs.List.{AllByRecursion}
 use Rattle.queue_name.specs.QueueName.{Name}
-use Rattle.policy_core.specs.LiveOrders.{end_of}
+use Rattle.policy_core.specs.declared.site.Site.{Site}
+use Rattle.policy_core.specs.declared.site.PathBase.{PathBase}
 use Rattle.policy_core.specs.declared.rules.Rule.{Rule}
 use Rattle.policy_core.specs.declared.rules.Action.{Action}
 use Rattle.policy_core.specs.declared.rules.Action.TheVariants.{SuspendTenant, SuspendCampaign}
@@ -37,12 +38,12 @@ is_covering SuspendTenant = true
 is_covering SuspendCampaign = true
 is_covering _ = false
 
--- what is kept of a firing of a rule at a moment, by the reply to a message of a queue
-abbrev pub kept_firing : Rule → ℕ → Name → Firing
-kept_firing rule t name = record {
-  end = end_of t rule.duration;
-  tenant = if is_covering rule.action then name.tenant else None;
-  campaign = if is_covering rule.action then name.campaign else None;
+-- what is kept of a firing that ends at a moment, of a rule of an action, by the reply to a message of a queue
+abbrev pub kept_firing : Action → ℕ → Name → Firing
+kept_firing action end name = record {
+  end = end;
+  tenant = if is_covering action then name.tenant else None;
+  campaign = if is_covering action then name.campaign else None;
 }
 
 -- a name of what is kept; coverage does not look at domains
@@ -55,3 +56,13 @@ ends_of firings = map (λ f. f.end) firings
 -- it is not over
 abbrev pub is_live : ℕ → Firing → Bool
 is_live t f = nat_lt t f.end
+
+-- of a path: what its tables come to, its site, and what is kept of each of its rules
+pub record PathMemory : Type 0 where
+  pub base : PathBase
+  pub site : Site
+  pub rules : List RuleMemory
+
+-- a rule that nothing matched yet
+abbrev pub blank_rule : Rule → RuleMemory
+blank_rule rule = record { most = looks_back rule.trigger; moments = []; firings = [] }

@@ -5,7 +5,7 @@ ghost use Rattle.policy_core.specs.LiveOrders.{end_of};
 ghost use Rattle.automation_rules.specs.Memory.{is_covering, kept_firing, name_kept};
 
 use kumo_base::{LAST_MOMENT, Memory, Text};
-use policy_core::{Action, Rule};
+use policy_core::Action;
 use queue_name::QueueName;
 use std::alloc::Global;
 
@@ -18,17 +18,16 @@ pub(crate) struct Firing {
 }
 
 impl Firing {
-    /// The firing of a rule at a moment, by the reply to a message of a queue.
+    /// A firing that ends at a moment, of a rule of this action, by the reply to a message of a queue.
     pub(crate) fn of(
         alloc: Global,
-        rule: &Rule,
-        t: u64,
+        action: &Action,
+        end: u64,
         name: &QueueName,
     ) -> Result<Firing, Memory>
-        ensures { IfOk result (λ firing. firing ≡ kept_firing rule.now t name.now) }
+        ensures { IfOk result (λ firing. firing ≡ kept_firing action.now end name.now) }
     {
-        let end = end_of(t, rule.duration);
-        if !is_covering(&rule.action) {
+        if !is_covering(action) {
             return Ok(Firing {
                 end,
                 tenant: None,
@@ -61,7 +60,7 @@ impl Firing {
 }
 
 /// The moment at which what began at one moment and lasts so long is over.
-fn end_of(start: u64, duration: u64) -> u64
+pub(crate) fn end_of(start: u64, duration: u64) -> u64
     ensures { result ≡ end_of start duration }
 {
     start.saturating_add(duration).min(LAST_MOMENT)

@@ -6,5 +6,7 @@
 #![tactic(auto)]
 
 mod firing;
+mod known_path;
 mod ring;
 mod rule_state;
+mod setting;

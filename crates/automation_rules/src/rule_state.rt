@@ -7,9 +7,9 @@ ghost use Rattle.std.specs.List.{list_any};
 ghost use Rattle.circular_buffer.specs.Buffer.{keep_last};
 ghost use Rattle.policy_core.specs.Automation.{is_fired, covers};
 ghost use Rattle.automation_rules.specs.Memory.{IsAscending, looks_back, is_live, ends_of, name_kept};
-ghost use Rattle.automation_rules.specs.inside.Noting.{without_over, noted_in, is_by};
+ghost use Rattle.automation_rules.specs.inside.Noting.{without_over, last_end, noted_in, is_by};
 
-use crate::firing::Firing;
+use crate::firing::{Firing, end_of};
 use crate::ring::Ring;
 use kumo_base::Memory;
 use policy_core::{Action, Rule, Trigger};
@@ -31,6 +31,10 @@ impl Model for RuleState {
     ghost Value = { RuleMemory };
 
     ghost view = { λ s. record { most = s.ring.most; moments = s.ring.moments; firings = s.firings.items } };
+
+    ghost use Rattle.automation_rules.specs.Memory.{IsAscending, ends_of};
+
+    ghost invariant = { λ s. IsAscending (ends_of s.firings.items) };
 }
 
 impl RuleState {
@@ -62,7 +66,9 @@ impl RuleState {
             self.ring.add(t)?;
             return Ok(false);
         }
-        let firing = Firing::of(alloc, rule, t, name)?;
+        // Where moments never fall, no firing before ends later.
+        let end = end_of(t, rule.duration).max(last_end(&self.firings));
+        let firing = Firing::of(alloc, &rule.action, end, name)?;
         self.firings.reserve(1)?;
         self.ring.add(t)?;
         self.firings.push_back_reserved(firing);
@@ -72,7 +78,7 @@ impl RuleState {
 
     /// Whether some firing is not over at a moment.
     pub(crate) fn is_in_force(&self, t: u64) -> bool
-        ensures { IsAscending (ends_of self.now.firings) → result ≡ list_any (is_live t) self.now.firings }
+        ensures { result ≡ list_any (is_live t) self.now.firings }
     {
         match self.firings.back() {
             Some(last) => t < last.end,
@@ -82,16 +88,14 @@ impl RuleState {
 
     /// Whether some firing that is not over at a moment holds back the messages of a queue, where the rule has this action.
     pub(crate) fn covers(&self, action: &Action, name: &QueueName, t: u64) -> bool
-        ensures { IsAscending (ends_of self.now.firings)
-            → result ≡ list_any (λ f. covers action.now (name_kept f) name.now) (filter (is_live t) self.now.firings) }
+        ensures { result ≡ list_any (λ f. covers action.now (name_kept f) name.now) (filter (is_live t) self.now.firings) }
     {
         covers_from(&self.firings, first_live(&self.firings, t), action, name)
     }
 
     /// The first end of the firings that are not over at a moment.
     pub(crate) fn next_end(&self, t: u64) -> Option<u64>
-        ensures { IsAscending (ends_of self.now.firings)
-            → (u : ℕ) → is_by u result ≡ list_any (λ f. nat_le f.end u) (filter (is_live t) self.now.firings) }
+        ensures { (u : ℕ) → is_by u result ≡ list_any (λ f. nat_le f.end u) (filter (is_live t) self.now.firings) }
     {
         let first = self.firings.get(first_live(&self.firings, t))?;
         Some(first.end)
@@ -110,8 +114,9 @@ fn looks_back(trigger: &Trigger) -> usize
 
 /// The place of the first firing that is not over at a moment, or how many there are.
 fn first_live(firings: &VecDeque<Firing>, t: u64) -> usize
+    requires { IsAscending (ends_of firings.now.items) }
     ensures within { result ≤ length firings.now.items }
-    ensures live { IsAscending (ends_of firings.now.items) → drop result firings.now.items ≡ filter (is_live t) firings.now.items }
+    ensures live { drop result firings.now.items ≡ filter (is_live t) firings.now.items }
 {
     firings.partition_point(|firing| firing.end <= t)
 }
@@ -127,6 +132,16 @@ fn covers_from(firings: &VecDeque<Firing>, from: usize, action: &Action, name: &
         }
     }
     false
+}
+
+/// When the last firing ends, or 0.
+fn last_end(firings: &VecDeque<Firing>) -> u64
+    ensures { result ≡ last_end firings.now.items }
+{
+    match firings.back() {
+        Some(last) => last.end,
+        None => 0,
+    }
 }
 
 /// Lets the firings go that are over at a moment, up to the first that is not.
