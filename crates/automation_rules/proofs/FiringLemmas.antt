@@ -7,7 +7,7 @@ use Rattle.std.proofs.lemmas.Bool.{cases_lt, leb-true, le-leb, false≢true}
 use Rattle.std.proofs.lemmas.List.Elements.{All-from_recursion}
 use Rattle.automation_rules.specs.declared.firing.Firing.{Firing}
 use Rattle.automation_rules.specs.Memory.{IsAscending, is_live, ends_of}
-use Rattle.automation_rules.specs.inside.Noting.{is_by}
+use Rattle.automation_rules.specs.inside.Noting.{without_over, last_end}
 
 lives : (t : ℕ) (f : Firing) → t < f.end → is_live t f ≡ true
 lives t f below = le-leb (suc t) f.end (omega arith)
@@ -112,3 +112,40 @@ first_tells u zero (f ∷ fs) x order below at = ap (λ (g : Firing). nat_le g.e
   by : (b : Bool) → nat_le f.end u ≡ b → nat_le f.end u ≡ (nat_le f.end u || list_any (λ f. nat_le f.end u) fs)
   by true is = rw is refl
   by false is = is ∙ sym (rw (is, none_by u fs (later_than u f.end (ends_of fs) (le_false f.end u is) order.0)) refl)
+
+-- the end of the last one
+pub last_end_is : (fs : List Firing) (x : Firing) → 0 < length fs → x ≡ get_or fs (length fs - 1) x → x.end ≡ last_end fs
+last_end_is [] x some at = absurd (omega arith)
+last_end_is (f ∷ []) x some at = ap (λ (g : Firing). g.end) at
+last_end_is (f ∷ (g ∷ fs)) x some at =
+    let next : suc (suc (length fs)) - 1 ≡ suc (suc (length fs) - 1) = omega arith in
+    last_end_is (g ∷ fs) x (omega arith) (at ∙ ap (λ n. get_or (f ∷ (g ∷ fs)) n x) next)
+
+last_end-push : (fs : List Firing) (f : Firing) → last_end (fs ++ f ∷ []) ≡ f.end
+last_end-push [] f = refl
+last_end-push (g ∷ []) f = refl
+last_end-push (g ∷ (h ∷ fs)) f = last_end-push (h ∷ fs) f
+
+-- a firing behind others that end no later
+below_last : (e : ℕ) (fs : List Firing) → AllByRecursion (λ u. e ≤ u) (ends_of fs) → IsAscending (ends_of fs) → 0 < length fs → e ≤ last_end fs
+below_last e [] above order some = absurd (omega arith)
+below_last e (f ∷ []) above order some = above.0
+below_last e (f ∷ (g ∷ fs)) above order some = below_last e (g ∷ fs) above.1 order.1 (omega arith)
+
+all_push : (e u : ℕ) (fs : List Firing) (f : Firing) → AllByRecursion (λ u. e ≤ u) (ends_of fs) → e ≤ f.end → AllByRecursion (λ u. e ≤ u) (ends_of (fs ++ f ∷ []))
+all_push e u [] f above below = (below, tt)
+all_push e u (g ∷ fs) f above below = (above.0, all_push e u fs f above.1 below)
+
+pub ascending_push : (fs : List Firing) (f : Firing) → IsAscending (ends_of fs) → last_end fs ≤ f.end → IsAscending (ends_of (fs ++ f ∷ []))
+ascending_push [] f order below = (tt, tt)
+ascending_push (g ∷ []) f order below = ((below, tt), (tt, tt))
+ascending_push (g ∷ (h ∷ fs)) f order below =
+    let least = below_last g.end (h ∷ fs) order.0 order.1 (omega arith) in
+    (all_push g.end 0 (h ∷ fs) f order.0 (omega arith), ascending_push (h ∷ fs) f order.1 below)
+
+pub ascending_without : (t : ℕ) (fs : List Firing) → IsAscending (ends_of fs) → IsAscending (ends_of (without_over t fs))
+ascending_without t [] order = tt
+ascending_without t (f ∷ fs) order = by (is_live t f) refl (ascending_without t fs order.1) where
+  by : (b : Bool) → is_live t f ≡ b → IsAscending (ends_of (without_over t fs)) → IsAscending (ends_of (without_over t (f ∷ fs)))
+  by true is more = rw is order
+  by false is more = rw is more
