@@ -6,16 +6,16 @@ use Rattle.std.proofs.lemmas.List.{get_or_default}
 use Rattle.std.proofs.lemmas.Bool.{cases_lt, leb-true, le-leb, false≢true}
 use Rattle.std.proofs.lemmas.List.Elements.{All-from_recursion}
 use Rattle.automation_rules.specs.declared.firing.Firing.{Firing}
-use Rattle.automation_rules.specs.Memory.{IsAscending, is_live, ends_of}
-use Rattle.automation_rules.specs.inside.Noting.{without_over, last_end}
+use Rattle.automation_rules.specs.Memory.{IsAscending, is_live, ends_of, last_end}
+use Rattle.automation_rules.specs.inside.Noting.{without_over}
 
 lives : (t : ℕ) (f : Firing) → t < f.end → is_live t f ≡ true
 lives t f below = le-leb (suc t) f.end (omega arith)
 
-is_lower : (t : ℕ) (f : Firing) → is_live t f ≡ true → t < f.end
+pub is_lower : (t : ℕ) (f : Firing) → is_live t f ≡ true → t < f.end
 is_lower t f is = omega (arith, leb-true (suc t) f.end is)
 
-is_over : (t : ℕ) (f : Firing) → f.end ≤ t → is_live t f ≡ false
+pub is_over : (t : ℕ) (f : Firing) → f.end ≤ t → is_live t f ≡ false
 is_over t f below = by (is_live t f) refl where
   by : (b : Bool) → is_live t f ≡ b → is_live t f ≡ false
   by false is = is
@@ -121,7 +121,7 @@ last_end_is (f ∷ (g ∷ fs)) x some at =
     let next : suc (suc (length fs)) - 1 ≡ suc (suc (length fs) - 1) = omega arith in
     last_end_is (g ∷ fs) x (omega arith) (at ∙ ap (λ n. get_or (f ∷ (g ∷ fs)) n x) next)
 
-last_end-push : (fs : List Firing) (f : Firing) → last_end (fs ++ f ∷ []) ≡ f.end
+pub last_end-push : (fs : List Firing) (f : Firing) → last_end (fs ++ f ∷ []) ≡ f.end
 last_end-push [] f = refl
 last_end-push (g ∷ []) f = refl
 last_end-push (g ∷ (h ∷ fs)) f = last_end-push (h ∷ fs) f

@@ -79,7 +79,7 @@ counted_last w n (x ∷ xs) up some order = by (w x) refl (counted_last w n xs u
   by false at more =
       ap (λ b. nat_le n (length (cond b (x ∷ filter w xs) (filter w xs)))) at ∙ more ∙ last_later w n x xs some at
 
-drop_front : {A : Type 0} (n : ℕ) (xs ys : List A) → n ≤ length xs → drop n xs ++ ys ≡ drop n (xs ++ ys)
+pub drop_front : {A : Type 0} (n : ℕ) (xs ys : List A) → n ≤ length xs → drop n xs ++ ys ≡ drop n (xs ++ ys)
 drop_front zero xs ys within = refl
 drop_front (suc n) [] ys within = absurd (omega arith)
 drop_front (suc n) (x ∷ xs) ys within = drop_front n xs ys (omega arith)

@@ -53,6 +53,12 @@ name_kept f = record { campaign = f.campaign; tenant = f.tenant; domain = [] }
 abbrev pub ends_of : List Firing → List ℕ
 ends_of firings = map (λ f. f.end) firings
 
+-- when the last firing ends
+abbrev pub last_end : List Firing → ℕ
+last_end [] = 0
+last_end (f ∷ []) = f.end
+last_end (f ∷ (g ∷ firings)) = last_end (g ∷ firings)
+
 -- it is not over
 abbrev pub is_live : ℕ → Firing → Bool
 is_live t f = nat_lt t f.end

@@ -5,8 +5,11 @@
 //! matches, as many as its trigger looks back on, and those of its firings that are not over yet.
 #![tactic(auto)]
 
+mod automaton;
 mod firing;
 mod known_path;
 mod ring;
 mod rule_state;
 mod setting;
+
+pub use automaton::Automaton;

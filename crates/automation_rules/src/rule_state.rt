@@ -6,8 +6,8 @@ ghost use Rattle.std.specs.Prelude.{◌≡◌, ◌≤◌, ◌++◌, ◌∷◌, [
 ghost use Rattle.std.specs.List.{list_any};
 ghost use Rattle.circular_buffer.specs.Buffer.{keep_last};
 ghost use Rattle.policy_core.specs.Automation.{is_fired, covers};
-ghost use Rattle.automation_rules.specs.Memory.{IsAscending, looks_back, is_live, ends_of, name_kept};
-ghost use Rattle.automation_rules.specs.inside.Noting.{without_over, last_end, noted_in, is_by};
+ghost use Rattle.automation_rules.specs.Memory.{IsAscending, looks_back, is_live, ends_of, last_end, name_kept};
+ghost use Rattle.automation_rules.specs.inside.Noting.{without_over, noted_in, is_by};
 
 use crate::firing::{Firing, end_of};
 use crate::ring::Ring;

@@ -5,18 +5,12 @@ use Rattle.queue_name.specs.QueueName.{Name}
 use Rattle.policy_core.specs.LiveOrders.{end_of}
 use Rattle.policy_core.specs.declared.rules.Rule.{Rule}
 use Rattle.automation_rules.specs.declared.firing.Firing.{Firing}
-use Rattle.automation_rules.specs.Memory.{RuleMemory, is_live, kept_firing}
+use Rattle.automation_rules.specs.Memory.{RuleMemory, is_live, kept_firing, last_end}
 
 -- the firings from the first on that is not over
 abbrev pub without_over : ℕ → List Firing → List Firing
 without_over t [] = []
 without_over t (f ∷ firings) = if is_live t f then f ∷ firings else without_over t firings
-
--- when the last firing ends
-abbrev pub last_end : List Firing → ℕ
-last_end [] = 0
-last_end (f ∷ []) = f.end
-last_end (f ∷ (g ∷ firings)) = last_end (g ∷ firings)
 
 -- a rule's state after a match, which fires or does not
 abbrev pub noted_in : RuleMemory → Rule → ℕ → Name → Bool → RuleMemory
