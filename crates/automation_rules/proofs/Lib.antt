@@ -5,3 +5,5 @@ pub mod AnyLemmas
 pub mod RuleSteps
 pub mod MatchSteps
 pub mod StandingSteps
+pub mod NoteSteps
+pub mod KeyLemmas

@@ -17,8 +17,11 @@ use Rattle.automation_rules.proofs.FiringLemmas.{is_over, is_lower, last_end-pus
 
 drop_twice : {A : Type 0} (m n : ℕ) (xs : List A) → drop m (drop n xs) ≡ drop (m + n) xs
 drop_twice m zero xs = let same : m ≡ m + 0 = omega arith in ap (λ k. drop k xs) same
-drop_twice m (suc n) [] = drop_none m ∙ sym (drop_none (m + suc n)) where
-  drop_none : {A : Type 0} (k : ℕ) → drop k ([] {A = A}) ≡ []
+drop_twice {A = A} m (suc n) [] = drop_none m ∙ sym (drop_none (m + suc n)) where
+  none : List A
+  none = []
+
+  drop_none : (k : ℕ) → drop k none ≡ none
   drop_none zero = refl
   drop_none (suc k) = refl
 drop_twice m (suc n) (x ∷ xs) =
@@ -83,7 +86,7 @@ last_without t e (f ∷ fs) below = by (is_live t f) refl (last_without t e fs (
   by false is more = rw is more
 
 -- a match that does not fire
-quiet : (x : Rule) (s : RuleMemory) (t : ℕ) (name : Name) (moments : List ℕ) (fired : List Firing) → RuleStandsFor x s moments fired
+pub quiet : (x : Rule) (s : RuleMemory) (t : ℕ) (name : Name) (moments : List ℕ) (fired : List Firing) → RuleStandsFor x s moments fired
     → AllByRecursion (λ s. s ≤ t) moments → RuleStandsFor x (noted_in s x t name false) (moments ++ t ∷ []) fired
 quiet x s t name moments fired stands latest = record {
   most = stands.most;
@@ -96,7 +99,7 @@ quiet x s t name moments fired stands latest = record {
 }
 
 -- one that does
-loud : (x : Rule) (s : RuleMemory) (t : ℕ) (name : Name) (moments : List ℕ) (fired : List Firing) → RuleStandsFor x s moments fired
+pub loud : (x : Rule) (s : RuleMemory) (t : ℕ) (name : Name) (moments : List ℕ) (fired : List Firing) → RuleStandsFor x s moments fired
     → AllByRecursion (λ s. s ≤ t) moments
     → RuleStandsFor x (noted_in s x t name true) (moments ++ t ∷ []) (fired ++ kept_firing x.action (end_of t x.duration) name ∷ [])
 loud x s t name moments fired stands latest =
