@@ -30,7 +30,7 @@ or_false : (a : Bool) → (a || false) ≡ a
 or_false true = refl
 or_false false = refl
 
-any_and : {A : Type 0} (s : Bool) (a v : A → Bool) (xs : List A) → (s && list_any (λ x. a x && v x) xs) ≡ list_any (λ x. a x && (s && v x)) xs
+pub any_and : {A : Type 0} (s : Bool) (a v : A → Bool) (xs : List A) → (s && list_any (λ x. a x && v x) xs) ≡ list_any (λ x. a x && (s && v x)) xs
 any_and true a v xs = refl
 any_and {A = A} false a v xs = sym (never xs) where
   never : (ys : List A) → list_any (λ x. a x && false) ys ≡ false

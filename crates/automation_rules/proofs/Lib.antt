@@ -7,3 +7,4 @@ pub mod MatchSteps
 pub mod StandingSteps
 pub mod NoteSteps
 pub mod KeyLemmas
+pub mod QueryLemmas
