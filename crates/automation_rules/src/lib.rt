@@ -8,6 +8,7 @@
 mod automaton;
 mod firing;
 mod known_path;
+mod matching;
 mod ring;
 mod rule_state;
 mod setting;
