@@ -1,6 +1,6 @@
 -- Whether a list has an element that passes: through maps and filters, and from a place of a list of rules on.
-use Rattle.std.proofs.Common.{◌≡◌, ◌≤◌, ◌<◌, ◌+◌, ℕ, zero, suc, arith, refl, sym, ap, ◌∙◌, Bool, true, false, ◌&&◌, ◌||◌, cond, List, [], ◌∷◌, length, get_or, drop, drop-cons, filter, map, add-one}
-use Rattle.std.specs.List.{list_any, enumerate_from, AllByRecursion}
+use Rattle.std.proofs.Common.{◌≡◌, ◌<◌, ◌+◌, ℕ, zero, suc, arith, refl, sym, ap, ◌∙◌, Bool, true, false, ◌&&◌, ◌||◌, List, [], ◌∷◌, length, get_or, drop, drop-cons, filter, map, add-one}
+use Rattle.std.specs.List.{list_any, enumerate_from}
 
 pub any-map : {A B : Type 0} (test : B → Bool) (f : A → B) (xs : List A) → list_any test (map f xs) ≡ list_any (λ x. test (f x)) xs
 any-map test f [] = refl
@@ -30,8 +30,8 @@ any_number test n zero (x ∷ xs) below = refl
 any_number {A = A} test n (suc i) (x ∷ xs) below =
     any_number test n i xs (omega arith)
     ∙ ap (λ k. test n || list_any (λ (r : ℕ × A). test r.0) (enumerate_from (n + 1) (drop k (x ∷ xs)))) shifted where
-  shifted : suc (i + 1) ≡ suc i + 1
-  shifted = omega arith
+      shifted : suc (i + 1) ≡ suc i + 1
+      shifted = omega arith
 
 -- one more that may be there, in front of the rest
 pub or_more : (a b more all : Bool) → all ≡ (a || (b || more)) → all ≡ ((a || b) || more)

@@ -1,10 +1,9 @@
 -- Firings that end in order: which of them are not over, and whether the last one is.
-use Rattle.std.proofs.Common.{◌≡◌, ◌≤◌, ◌<◌, ◌+◌, ◌-◌, ◌⊎◌, inl, inr, ℕ, zero, suc, refl, sym, ap, ◌∙◌, subst, arith, Bool, true, false, ◌||◌, cond, Option, Some, None, List, [], ◌∷◌, ◌++◌, length, take, drop, filter, map, get_or, nat_lt, nat_le}
-use Rattle.std.specs.List.{All, AllWithin, AllByRecursion, list_any}
+use Rattle.std.proofs.Common.{◌≡◌, ◌≤◌, ◌<◌, ◌-◌, ◌⊎◌, inl, inr, ℕ, zero, suc, refl, sym, ap, ◌∙◌, arith, Bool, true, false, ◌||◌, cond, List, [], ◌∷◌, ◌++◌, length, drop, filter, get_or, nat_le}
+use Rattle.std.specs.List.{AllByRecursion, list_any}
 use Rattle.std.specs.List.Sorted.{IsPartitionedBy, IsPartitionPoint}
 use Rattle.std.proofs.lemmas.List.{get_or_default}
 use Rattle.std.proofs.lemmas.Bool.{cases_lt, leb-true, le-leb, false≢true}
-use Rattle.std.proofs.lemmas.List.Elements.{All-from_recursion}
 use Rattle.automation_rules.specs.declared.firing.Firing.{Firing}
 use Rattle.automation_rules.specs.Memory.{IsAscending, is_live, ends_of, last_end}
 use Rattle.automation_rules.specs.inside.Noting.{without_over}

@@ -1,5 +1,5 @@
 -- Elements that name a place of a list by a key: one passes exactly where, at some place, one that names it does.
-use Rattle.std.proofs.Common.{◌≡◌, ◌≤◌, ◌<◌, ◌+◌, ◌-◌, ◌⊎◌, inl, inr, ℕ, zero, suc, refl, sym, ap, ◌∙◌, arith, Bool, true, false, ◌&&◌, ◌||◌, ◌==◌, nat_eq, cond, Option, Some, None, List, [], ◌∷◌, filter}
+use Rattle.std.proofs.Common.{◌≡◌, ◌≤◌, ◌<◌, ◌+◌, ◌-◌, ◌⊎◌, inl, inr, ℕ, suc, refl, sym, ap, ◌∙◌, arith, Bool, true, false, ◌&&◌, ◌||◌, ◌==◌, nat_eq, Some, None, List, [], ◌∷◌, filter}
 use Rattle.std.specs.Prelude.{slice_get}
 use Rattle.std.specs.List.{list_any, enumerate_from, AllByRecursion}
 use Rattle.std.proofs.lemmas.Bool.{cases_eq, eqb-true, eq-eqb}
@@ -100,12 +100,12 @@ any_one {X = X} k n test (y ∷ ys) x from at = by (cases_eq k n) (λ later ther
   by (inr ne) more =
       let next : k - n ≡ suc (k - (n + 1)) = later (cases_eq k n) in
       rw (not_equal k n ne) (more (far (cases_eq k n)) (sym (ap (slice_get (y ∷ ys)) next) ∙ at)) where
-    far : (k ≡ n) ⊎ (k ≡ n → ⊥) → n + 1 ≤ k
-    far (inl e) = absurd (ne e)
-    far (inr e) = omega arith
+        far : (k ≡ n) ⊎ (k ≡ n → ⊥) → n + 1 ≤ k
+        far (inl e) = absurd (ne e)
+        far (inr e) = omega arith
 
-    later : (k ≡ n) ⊎ (k ≡ n → ⊥) → k - n ≡ suc (k - (n + 1))
-    later c = let above = far c in omega arith
+        later : (k ≡ n) ⊎ (k ≡ n → ⊥) → k - n ≡ suc (k - (n + 1))
+        later c = let above = far c in omega arith
 
 -- each element names a place that is there, and says there what it says alone
 pub any_keyed : {A X : Type 0} (key : A → ℕ) (at_place : X → A → Bool) (alone : A → Bool) (n : ℕ) (xs : List X) (fs : List A)

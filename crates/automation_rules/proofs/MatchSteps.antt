@@ -1,9 +1,9 @@
 -- What one match more adds to moments and firings.
-use Rattle.std.proofs.Common.{◌≡◌, ◌≤◌, ℕ, ◌+◌, refl, sym, ap, ◌∙◌, Bool, true, false, cond, ◌==◌, List, [], ◌∷◌, ◌++◌, append-nil, append_assoc, filter, map}
+use Rattle.std.proofs.Common.{◌≡◌, ◌≤◌, ℕ, refl, sym, ap, ◌∙◌, Bool, true, false, cond, List, [], ◌∷◌, ◌++◌, append-nil, append_assoc, filter, map}
 use Rattle.std.specs.List.{All, AllByRecursion}
 use Rattle.std.proofs.lemmas.List.{map-append}
 use Rattle.std.proofs.lemmas.List.Elements.{filter-append, recursion_from_All}
-use Rattle.automation_rules.specs.Matches.{Noted, IsLatest, is_of, moments_of, is_firing, fired_at, firings_from, firings_of}
+use Rattle.automation_rules.specs.Matches.{Noted, is_of, moments_of, is_firing, fired_at, firings_from, firings_of}
 use Rattle.automation_rules.specs.Standing.{kept_of, kept_firings}
 
 firings_more : (before ms : List Noted) (m : Noted) → firings_from before (ms ++ m ∷ []) ≡ firings_from before ms ++ fired_at (before ++ ms) m

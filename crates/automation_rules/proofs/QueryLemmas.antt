@@ -1,11 +1,11 @@
 -- What the states show at a moment, and what the firings of the matches come to.
-use Rattle.std.proofs.Common.{◌≡◌, ◌≤◌, ◌<◌, ◌+◌, ◌-◌, ◌⊎◌, inl, inr, ℕ, min, refl, sym, ap, ◌∙◌, subst, arith, Bool, true, false, ◌&&◌, ◌||◌, ◌==◌, nat_eq, nat_le, nat_lt, cond, Option, Some, None, unwrap_or, List, [], ◌∷◌, length, get_or, filter, map, option_map, option_and_then}
+use Rattle.std.proofs.Common.{◌≡◌, ◌≤◌, ◌<◌, ◌+◌, ◌-◌, ◌⊎◌, inl, inr, ℕ, min, refl, sym, ap, ◌∙◌, subst, arith, Bool, true, false, ◌&&◌, ◌||◌, ◌==◌, nat_le, Option, Some, None, unwrap_or, List, [], ◌∷◌, length, get_or, filter, map, option_map}
 use Rattle.std.specs.Prelude.{slice_get, is_some}
-use Rattle.std.specs.List.{All, list_any, enumerate_from, AllByRecursion}
-use Rattle.std.proofs.lemmas.Bool.{cases_lt, leb-true, le-leb, eqb-true, eq-eqb, false≢true}
+use Rattle.std.specs.List.{list_any, AllByRecursion}
+use Rattle.std.proofs.lemmas.Bool.{cases_lt, leb-true, le-leb, eqb-true, false≢true}
 use Rattle.std.proofs.lemmas.Option.{slice_get-get_or, get_or_from_slice_get, slice_get_within, slice_get-map}
 use Rattle.std.proofs.lemmas.List.{get_or_default}
-use Rattle.std.proofs.lemmas.List.Elements.{All-get_or, All-weaker, recursion_from_All, filter_passes, All-filter, All-from_recursion}
+use Rattle.std.proofs.lemmas.List.Elements.{All-get_or, recursion_from_All}
 use Rattle.circular_buffer.proofs.Places.{slice_get-some}
 use Rattle.queue_name.specs.QueueName.{Name}
 use Rattle.policy_core.specs.PathOptions.{in_force_of}
@@ -25,7 +25,7 @@ use Rattle.automation_rules.specs.inside.Showing.{firings_at, halts_by, is_cover
 use Rattle.automation_rules.proofs.AnyLemmas.{any-map, any-filter}
 use Rattle.automation_rules.proofs.KeyLemmas.{any_same, any_numbered, any_keyed, any_enumerated, any_and, filter_numbered}
 use Rattle.automation_rules.proofs.MatchSteps.{all_firings, latest_moments}
-use Rattle.automation_rules.proofs.StandingSteps.{KnownRule, known_rule}
+use Rattle.automation_rules.proofs.StandingSteps.{known_rule}
 
 live_is : (t : ℕ) (f : Noted) → f.at ≤ t → is_in_force t f ≡ is_live t (kept_of f)
 live_is t f before = rw (le-leb f.at t before) refl
@@ -46,37 +46,37 @@ rule_any state ms path number t p test stands latest within here counted inside 
     ∙ any_same _ _ (firings_of ms)
     (map_all (λ (f : Noted). f.at ≤ t) (λ f. (is_of path number f && (is_live t (kept_of f) && test (kept_of f))) ≡ (is_of path number f && (is_in_force t f && test (kept_of f)))) (firings_of ms)
     (λ f before. ap (λ b. is_of path number f && (b && test (kept_of f))) (sym (live_is t f before))) (all_firings (λ (f : Noted). f.at ≤ t) ms latest)) where
-  blank : RuleMemory
-  blank = record { most = 0; moments = []; firings = [] }
+      blank : RuleMemory
+      blank = record { most = 0; moments = []; firings = [] }
 
-  long : length p.rules ≡ length p.base.rules
-  long = subst (λ (r : PathMemory). length r.rules ≡ length r.base.rules) (sym here) (All-get_or (λ (r : PathMemory). length r.rules ≡ length r.base.rules) state path p within stands.whole)
+      long : length p.rules ≡ length p.base.rules
+      long = subst (λ (r : PathMemory). length r.rules ≡ length r.base.rules) (sym here) (All-get_or (λ (r : PathMemory). length r.rules ≡ length r.base.rules) state path p within stands.whole)
 
-  s : RuleMemory
-  s = get_or p.rules (number - 1) blank
+      s : RuleMemory
+      s = get_or p.rules (number - 1) blank
 
-  rule : (x : Rule) × (slice_get p.base.rules (number - 1) ≡ Some x)
-  rule = slice_get-some p.base.rules (number - 1) inside
+      rule : (x : Rule) × (slice_get p.base.rules (number - 1) ≡ Some x)
+      rule = slice_get-some p.base.rules (number - 1) inside
 
-  there : rule.0 ≡ get_or p.base.rules (number - 1) rule.0
-  there = sym (get_or_from_slice_get p.base.rules (number - 1) rule.0 rule.0 rule.1)
+      there : rule.0 ≡ get_or p.base.rules (number - 1) rule.0
+      there = sym (get_or_from_slice_get p.base.rules (number - 1) rule.0 rule.0 rule.1)
 
-  has : number - 1 < length p.rules
-  has = omega (arith, long)
+      has : number - 1 < length p.rules
+      has = omega (arith, long)
 
-  mine : s ≡ get_or p.rules (number - 1) s
-  mine = get_or_default p.rules (number - 1) blank s has
+      mine : s ≡ get_or p.rules (number - 1) s
+      mine = get_or_default p.rules (number - 1) blank s has
 
-  counts : number - 1 + 1 ≡ number
-  counts = omega arith
+      counts : number - 1 + 1 ≡ number
+      counts = omega arith
 
-  own : RuleStandsFor rule.0 s (moments_of path number ms) (kept_firings path number ms)
-  own =
-      subst (λ k. RuleStandsFor rule.0 s (moments_of path k ms) (kept_firings path k ms)) counts
-      (stands.rules path (number - 1) p rule.0 s within here has there mine)
+      own : RuleStandsFor rule.0 s (moments_of path number ms) (kept_firings path number ms)
+      own =
+          subst (λ k. RuleStandsFor rule.0 s (moments_of path k ms) (kept_firings path k ms)) counts
+          (stands.rules path (number - 1) p rule.0 s within here has there mine)
 
-  moments : AllByRecursion (λ s. s ≤ t) (moments_of path number ms)
-  moments = latest_moments t path number ms (recursion_from_All (λ (m : Noted). m.at ≤ t) ms latest)
+      moments : AllByRecursion (λ s. s ≤ t) (moments_of path number ms)
+      moments = latest_moments t path number ms (recursion_from_All (λ (m : Noted). m.at ≤ t) ms latest)
 
 and_turn : (a b c : Bool) → ((a && b) && c) ≡ (b && (a && c))
 and_turn true true c = refl
@@ -94,47 +94,47 @@ path_any state ms path t p test stands latest within here =
     ∙ any_numbered (λ (r : ℕ × Rule). list_any (λ f. is_of path r.0 f && shown r.1 f) (firings_of ms)) (λ (r : ℕ × Rule). list_any (λ f. (f.number == r.0) && shown r.1 f) own) 1 p.base.rules turned
     ∙ any_keyed (λ (f : Noted). f.number) shown (λ f. shown f.rule f) 1 p.base.rules own named
     ∙ any-filter (λ f. shown f.rule f) (λ (f : Noted). f.path == path) (firings_of ms) where
-  shown : Rule → Noted → Bool
-  shown x f = is_in_force t f && test x (kept_of f)
+      shown : Rule → Noted → Bool
+      shown x f = is_in_force t f && test x (kept_of f)
 
-  own : List Noted
-  own = filter (λ (f : Noted). f.path == path) (firings_of ms)
+      own : List Noted
+      own = filter (λ (f : Noted). f.path == path) (firings_of ms)
 
-  by_rule : (i : ℕ) (x : Rule) → slice_get p.base.rules i ≡ Some x
-      → list_any (test x) (filter (is_live t) (firings_at p.rules (1 + i))) ≡ list_any (λ f. is_of path (1 + i) f && shown x f) (firings_of ms)
-  by_rule i x at =
-      let inside = slice_get_within p.base.rules i x at in
-      rule_any state ms path (1 + i) t p (test x) stands latest within here (omega arith) (omega (arith, inside))
+      by_rule : (i : ℕ) (x : Rule) → slice_get p.base.rules i ≡ Some x
+          → list_any (test x) (filter (is_live t) (firings_at p.rules (1 + i))) ≡ list_any (λ f. is_of path (1 + i) f && shown x f) (firings_of ms)
+      by_rule i x at =
+          let inside = slice_get_within p.base.rules i x at in
+          rule_any state ms path (1 + i) t p (test x) stands latest within here (omega arith) (omega (arith, inside))
 
-  turned : (i : ℕ) (x : Rule) → slice_get p.base.rules i ≡ Some x
-      → list_any (λ f. is_of path (1 + i) f && shown x f) (firings_of ms) ≡ list_any (λ f. (f.number == (1 + i)) && shown x f) own
-  turned i x at =
-      any_same _ _ (firings_of ms) (all_turned (firings_of ms))
-      ∙ sym (any-filter (λ f. (f.number == (1 + i)) && shown x f) (λ (f : Noted). f.path == path) (firings_of ms)) where
-    all_turned : (fs : List Noted) → AllByRecursion (λ f. (is_of path (1 + i) f && shown x f) ≡ ((f.path == path) && ((f.number == (1 + i)) && shown x f))) fs
-    all_turned [] = tt
-    all_turned (f ∷ fs) = (and_turn (f.number == (1 + i)) (f.path == path) (shown x f), all_turned fs)
+      turned : (i : ℕ) (x : Rule) → slice_get p.base.rules i ≡ Some x
+          → list_any (λ f. is_of path (1 + i) f && shown x f) (firings_of ms) ≡ list_any (λ f. (f.number == (1 + i)) && shown x f) own
+      turned i x at =
+          any_same _ _ (firings_of ms) (all_turned (firings_of ms))
+          ∙ sym (any-filter (λ f. (f.number == (1 + i)) && shown x f) (λ (f : Noted). f.path == path) (firings_of ms)) where
+            all_turned : (fs : List Noted) → AllByRecursion (λ f. (is_of path (1 + i) f && shown x f) ≡ ((f.path == path) && ((f.number == (1 + i)) && shown x f))) fs
+            all_turned [] = tt
+            all_turned (f ∷ fs) = (and_turn (f.number == (1 + i)) (f.path == path) (shown x f), all_turned fs)
 
-  named : AllByRecursion (λ f. (x : Rule) × ((1 ≤ f.number) × ((slice_get p.base.rules (f.number - 1) ≡ Some x) × (shown x f ≡ shown f.rule f)))) own
-  named = named_in (firings_of ms) (all_firings (λ n. rule_at (paths_of state) n.path n.number ≡ Some n.rule) ms stands.known) where
-    name_of : (f : Noted) → (f.path == path) ≡ true → rule_at (paths_of state) f.path f.number ≡ Some f.rule
-        → (x : Rule) × ((1 ≤ f.number) × ((slice_get p.base.rules (f.number - 1) ≡ Some x) × (shown x f ≡ shown f.rule f)))
-    name_of f same known =
-        let k = known_rule state f.path f.number f.rule known in
-        let e = eqb-true f.path path same in
-        let found = k.there p (here ∙ ap (λ i. get_or state i p) (sym e)) in
-        (f.rule, (k.from_one, (slice_get-get_or p.base.rules (f.number - 1) f.rule found.0 ∙ ap Some (sym found.1), refl)))
+      named : AllByRecursion (λ f. (x : Rule) × ((1 ≤ f.number) × ((slice_get p.base.rules (f.number - 1) ≡ Some x) × (shown x f ≡ shown f.rule f)))) own
+      named = named_in (firings_of ms) (all_firings (λ n. rule_at (paths_of state) n.path n.number ≡ Some n.rule) ms stands.known) where
+        name_of : (f : Noted) → (f.path == path) ≡ true → rule_at (paths_of state) f.path f.number ≡ Some f.rule
+            → (x : Rule) × ((1 ≤ f.number) × ((slice_get p.base.rules (f.number - 1) ≡ Some x) × (shown x f ≡ shown f.rule f)))
+        name_of f same known =
+            let k = known_rule state f.path f.number f.rule known in
+            let e = eqb-true f.path path same in
+            let found = k.there p (here ∙ ap (λ i. get_or state i p) (sym e)) in
+            (f.rule, (k.from_one, (slice_get-get_or p.base.rules (f.number - 1) f.rule found.0 ∙ ap Some (sym found.1), refl)))
 
-    named_in : (fs : List Noted) → AllByRecursion (λ n. rule_at (paths_of state) n.path n.number ≡ Some n.rule) fs
-        → AllByRecursion (λ f. (x : Rule) × ((1 ≤ f.number) × ((slice_get p.base.rules (f.number - 1) ≡ Some x) × (shown x f ≡ shown f.rule f)))) (filter (λ (f : Noted). f.path == path) fs)
-    named_in [] all = tt
-    named_in (f ∷ fs) all = by (f.path == path) refl (named_in fs all.1) (λ same. name_of f same all.0) where
-      by : (b : Bool) → (f.path == path) ≡ b
-          → AllByRecursion (λ f. (x : Rule) × ((1 ≤ f.number) × ((slice_get p.base.rules (f.number - 1) ≡ Some x) × (shown x f ≡ shown f.rule f)))) (filter (λ (f : Noted). f.path == path) fs)
-          → ((f.path == path) ≡ true → (x : Rule) × ((1 ≤ f.number) × ((slice_get p.base.rules (f.number - 1) ≡ Some x) × (shown x f ≡ shown f.rule f))))
-          → AllByRecursion (λ f. (x : Rule) × ((1 ≤ f.number) × ((slice_get p.base.rules (f.number - 1) ≡ Some x) × (shown x f ≡ shown f.rule f)))) (filter (λ (f : Noted). f.path == path) (f ∷ fs))
-      by true is more one = rw is (one is, more)
-      by false is more one = rw is more
+        named_in : (fs : List Noted) → AllByRecursion (λ n. rule_at (paths_of state) n.path n.number ≡ Some n.rule) fs
+            → AllByRecursion (λ f. (x : Rule) × ((1 ≤ f.number) × ((slice_get p.base.rules (f.number - 1) ≡ Some x) × (shown x f ≡ shown f.rule f)))) (filter (λ (f : Noted). f.path == path) fs)
+        named_in [] all = tt
+        named_in (f ∷ fs) all = by (f.path == path) refl (named_in fs all.1) (λ same. name_of f same all.0) where
+          by : (b : Bool) → (f.path == path) ≡ b
+              → AllByRecursion (λ f. (x : Rule) × ((1 ≤ f.number) × ((slice_get p.base.rules (f.number - 1) ≡ Some x) × (shown x f ≡ shown f.rule f)))) (filter (λ (f : Noted). f.path == path) fs)
+              → ((f.path == path) ≡ true → (x : Rule) × ((1 ≤ f.number) × ((slice_get p.base.rules (f.number - 1) ≡ Some x) × (shown x f ≡ shown f.rule f))))
+              → AllByRecursion (λ f. (x : Rule) × ((1 ≤ f.number) × ((slice_get p.base.rules (f.number - 1) ≡ Some x) × (shown x f ≡ shown f.rule f)))) (filter (λ (f : Noted). f.path == path) (f ∷ fs))
+          by true is more one = rw is (one is, more)
+          by false is more one = rw is more
 
 -- what some firing of any path shows, where the path itself passes too
 pub paths_any : (state : List PathMemory) (ms : List Noted) (t : ℕ) (pass : PathMemory → Bool) (test : Rule → Firing → Bool) (alone : Noted → Bool)
@@ -148,26 +148,26 @@ paths_any state ms t pass test alone stands latest says =
     ∙ any_keyed (λ (f : Noted). f.path) (λ p f. pass p && shown f) alone 0 state (firings_of ms)
     (map_all (λ n. rule_at (paths_of state) n.path n.number ≡ Some n.rule) (λ f. (p : PathMemory) × ((0 ≤ f.path) × ((slice_get state (f.path - 0) ≡ Some p) × ((pass p && shown f) ≡ alone f)))) (firings_of ms)
     name_of (all_firings (λ n. rule_at (paths_of state) n.path n.number ≡ Some n.rule) ms stands.known)) where
-  inner : PathMemory → Bool
-  inner p = list_any (λ (r : ℕ × Rule). list_any (test r.1) (filter (is_live t) (firings_at p.rules r.0))) (numbered_rules p.base)
+      inner : PathMemory → Bool
+      inner p = list_any (λ (r : ℕ × Rule). list_any (test r.1) (filter (is_live t) (firings_at p.rules r.0))) (numbered_rules p.base)
 
-  shown : Noted → Bool
-  shown f = is_in_force t f && test f.rule (kept_of f)
+      shown : Noted → Bool
+      shown f = is_in_force t f && test f.rule (kept_of f)
 
-  by_path : (i : ℕ) (p : PathMemory) → slice_get state i ≡ Some p
-      → (pass p && inner p) ≡ list_any (λ f. (f.path == (0 + i)) && (pass p && shown f)) (firings_of ms)
-  by_path i p at =
-      let none_before : i ≡ 0 + i = omega arith in
-      ap (λ b. pass p && b) (path_any state ms i t p test stands latest (slice_get_within state i p at) (sym (get_or_from_slice_get state i p p at)))
-      ∙ any_and (pass p) (λ (f : Noted). f.path == i) shown (firings_of ms)
-      ∙ ap (λ k. list_any (λ (f : Noted). (f.path == k) && (pass p && shown f)) (firings_of ms)) none_before
+      by_path : (i : ℕ) (p : PathMemory) → slice_get state i ≡ Some p
+          → (pass p && inner p) ≡ list_any (λ f. (f.path == (0 + i)) && (pass p && shown f)) (firings_of ms)
+      by_path i p at =
+          let none_before : i ≡ 0 + i = omega arith in
+          ap (λ b. pass p && b) (path_any state ms i t p test stands latest (slice_get_within state i p at) (sym (get_or_from_slice_get state i p p at)))
+          ∙ any_and (pass p) (λ (f : Noted). f.path == i) shown (firings_of ms)
+          ∙ ap (λ k. list_any (λ (f : Noted). (f.path == k) && (pass p && shown f)) (firings_of ms)) none_before
 
-  name_of : (f : Noted) → rule_at (paths_of state) f.path f.number ≡ Some f.rule
-      → (p : PathMemory) × ((0 ≤ f.path) × ((slice_get state (f.path - 0) ≡ Some p) × ((pass p && shown f) ≡ alone f)))
-  name_of f known =
-      let found = slice_get-some state f.path (known_rule state f.path f.number f.rule known).path_within in
-      let none_less : f.path - 0 ≡ f.path = omega arith in
-      (found.0, (omega arith, (ap (slice_get state) none_less ∙ found.1, says f found.0 found.1)))
+      name_of : (f : Noted) → rule_at (paths_of state) f.path f.number ≡ Some f.rule
+          → (p : PathMemory) × ((0 ≤ f.path) × ((slice_get state (f.path - 0) ≡ Some p) × ((pass p && shown f) ≡ alone f)))
+      name_of f known =
+          let found = slice_get-some state f.path (known_rule state f.path f.number f.rule known).path_within in
+          let none_less : f.path - 0 ≡ f.path = omega arith in
+          (found.0, (omega arith, (ap (slice_get state) none_less ∙ found.1, says f found.0 found.1)))
 
 any_fixed : (b : Bool) (live : Firing → Bool) (fs : List Firing) → list_any (λ k. b) (filter live fs) ≡ (b && list_any live fs)
 any_fixed b live [] = sym (and_false b) where
@@ -236,11 +236,11 @@ limits_answer state ms path t p stands latest within here =
     ap Some (limits_same p.base (λ n. list_any (is_live t) (firings_at p.rules n)) (is_rule_in_force ms t path)
     (filter_numbered (λ n. list_any (is_live t) (firings_at p.rules n)) (is_rule_in_force ms t path) 1 p.base.rules shown))
     ∙ sym (ap (option_map (λ (q : PathRules). limits_of q.base (is_rule_in_force ms t path))) (path_there state path p within here)) where
-  shown : (i : ℕ) (x : Rule) → slice_get p.base.rules i ≡ Some x
-      → list_any (is_live t) (firings_at p.rules (1 + i)) ≡ is_rule_in_force ms t path (1 + i)
-  shown i x at =
-      let inside = slice_get_within p.base.rules i x at in
-      rule_shown state ms path (1 + i) t p stands latest within here (omega arith) (omega (arith, inside))
+      shown : (i : ℕ) (x : Rule) → slice_get p.base.rules i ≡ Some x
+          → list_any (is_live t) (firings_at p.rules (1 + i)) ≡ is_rule_in_force ms t path (1 + i)
+      shown i x at =
+          let inside = slice_get_within p.base.rules i x at in
+          rule_shown state ms path (1 + i) t p stands latest within here (omega arith) (omega (arith, inside))
 
 and_round : (a b c : Bool) → (a && (b && c)) ≡ (b && (c && a))
 and_round true true c = sym (and_true c) where
@@ -285,15 +285,15 @@ covers_answer state ms path t here name stands latest within at =
     paths_any state ms t (λ p. is_same_site p.site here.site) (λ x k. covers x.action (name_kept k) name)
     (λ f. is_in_force t f && (are_same_sites (slice_get (paths_of state) f.path) (slice_get (paths_of state) path) && covers f.rule.action f.name name)) stands latest says
     ∙ sym (any-filter (λ f. are_same_sites (slice_get (paths_of state) f.path) (slice_get (paths_of state) path) && covers f.rule.action f.name name) (is_in_force t) (firings_of ms)) where
-  says : (f : Noted) (p : PathMemory) → slice_get state f.path ≡ Some p
-      → (is_same_site p.site here.site && (is_in_force t f && covers f.rule.action (name_kept (kept_of f)) name))
-      ≡ (is_in_force t f && (are_same_sites (slice_get (paths_of state) f.path) (slice_get (paths_of state) path) && covers f.rule.action f.name name))
-  says f p there =
-      let one = path_there state f.path p (slice_get_within state f.path p there) (sym (get_or_from_slice_get state f.path p p there)) in
-      let other = path_there state path here within at in
-      and_swap (is_same_site p.site here.site) (is_in_force t f) (covers f.rule.action (name_kept (kept_of f)) name)
-      ∙ ap (λ b. is_in_force t f && (is_same_site p.site here.site && b)) (covers_kept f.rule.action (end_of f.at f.rule.duration) f.name name)
-      ∙ sym (ap (λ a. is_in_force t f && (are_same_sites a (slice_get (paths_of state) path) && covers f.rule.action f.name name)) one
+      says : (f : Noted) (p : PathMemory) → slice_get state f.path ≡ Some p
+          → (is_same_site p.site here.site && (is_in_force t f && covers f.rule.action (name_kept (kept_of f)) name))
+          ≡ (is_in_force t f && (are_same_sites (slice_get (paths_of state) f.path) (slice_get (paths_of state) path) && covers f.rule.action f.name name))
+      says f p there =
+          let one = path_there state f.path p (slice_get_within state f.path p there) (sym (get_or_from_slice_get state f.path p p there)) in
+          let other = path_there state path here within at in
+          and_swap (is_same_site p.site here.site) (is_in_force t f) (covers f.rule.action (name_kept (kept_of f)) name)
+          ∙ ap (λ b. is_in_force t f && (is_same_site p.site here.site && b)) (covers_kept f.rule.action (end_of f.at f.rule.duration) f.name name)
+          ∙ sym (ap (λ a. is_in_force t f && (are_same_sites a (slice_get (paths_of state) path) && covers f.rule.action f.name name)) one
           ∙ ap (λ b. is_in_force t f && (are_same_sites (Some (record { base = p.base; site = p.site })) b && covers f.rule.action f.name name)) other)
 
 least_by : (u : ℕ) (es : List ℕ) → is_by u (least es) ≡ list_any (λ e. nat_le e u) es
@@ -338,7 +338,7 @@ pub next_end_answer : (state : List PathMemory) (ms : List Noted) (t : ℕ) (r :
     → ((u : ℕ) → is_by u r ≡ list_any (is_ending_path t u) state) → r ≡ next_end ms t
 next_end_answer state ms t r stands latest says =
     same_by r (next_end ms t) (λ u. says u
-        ∙ paths_any state ms t (λ p. true) (λ x k. nat_le k.end u) (λ f. is_in_force t f && nat_le (end_of f.at f.rule.duration) u) stands latest (λ f p there. refl)
-        ∙ sym (any-filter (λ f. nat_le (end_of f.at f.rule.duration) u) (is_in_force t) (firings_of ms))
-        ∙ sym (any-map (λ e. nat_le e u) (λ (f : Noted). end_of f.at f.rule.duration) (firings_in_force ms t))
-        ∙ sym (least_by u (map (λ (f : Noted). end_of f.at f.rule.duration) (firings_in_force ms t))))
+    ∙ paths_any state ms t (λ p. true) (λ x k. nat_le k.end u) (λ f. is_in_force t f && nat_le (end_of f.at f.rule.duration) u) stands latest (λ f p there. refl)
+    ∙ sym (any-filter (λ f. nat_le (end_of f.at f.rule.duration) u) (is_in_force t) (firings_of ms))
+    ∙ sym (any-map (λ e. nat_le e u) (λ (f : Noted). end_of f.at f.rule.duration) (firings_in_force ms t))
+    ∙ sym (least_by u (map (λ (f : Noted). end_of f.at f.rule.duration) (firings_in_force ms t))))

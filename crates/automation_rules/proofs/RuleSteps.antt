@@ -1,19 +1,18 @@
 -- A state of a rule takes one match more.
-use Rattle.std.proofs.Common.{◌≡◌, ◌≤◌, ◌<◌, ◌+◌, ◌-◌, ◌⊎◌, inl, inr, ℕ, zero, suc, max, refl, sym, ap, ◌∙◌, subst, arith, Bool, true, false, cond, List, [], ◌∷◌, ◌++◌, append-nil, length, drop, filter, length-append, length-drop, nat_lt}
+use Rattle.std.proofs.Common.{◌≡◌, ◌≤◌, ◌<◌, ◌+◌, ◌-◌, ◌⊎◌, inl, inr, ℕ, zero, suc, max, refl, sym, ap, ◌∙◌, arith, Bool, true, false, cond, List, [], ◌∷◌, ◌++◌, length, drop, filter, length-append, length-drop}
 use Rattle.std.specs.List.{AllByRecursion}
 use Rattle.std.proofs.lemmas.List.Elements.{filter-append}
 use Rattle.std.proofs.lemmas.Bool.{cases_lt, le-leb, false≢true}
 use Rattle.circular_buffer.specs.Buffer.{keep_last}
 use Rattle.queue_name.specs.QueueName.{Name}
 use Rattle.policy_core.specs.LiveOrders.{end_of}
-use Rattle.policy_core.specs.Automation.{is_fired}
 use Rattle.policy_core.specs.declared.rules.Rule.{Rule}
 use Rattle.automation_rules.specs.declared.firing.Firing.{Firing}
 use Rattle.automation_rules.specs.Memory.{RuleMemory, IsAscending, looks_back, is_live, last_end, kept_firing}
 use Rattle.automation_rules.specs.Standing.{RuleStandsFor}
 use Rattle.automation_rules.specs.inside.Noting.{without_over, noted_in}
 use Rattle.automation_rules.proofs.WindowLemmas.{drop_front}
-use Rattle.automation_rules.proofs.FiringLemmas.{is_over, is_lower, last_end-push}
+use Rattle.automation_rules.proofs.FiringLemmas.{is_over, last_end-push}
 
 drop_twice : {A : Type 0} (m n : ℕ) (xs : List A) → drop m (drop n xs) ≡ drop (m + n) xs
 drop_twice m zero xs = let same : m ≡ m + 0 = omega arith in ap (λ k. drop k xs) same
@@ -104,29 +103,29 @@ pub loud : (x : Rule) (s : RuleMemory) (t : ℕ) (name : Name) (moments : List �
     → RuleStandsFor x (noted_in s x t name true) (moments ++ t ∷ []) (fired ++ kept_firing x.action (end_of t x.duration) name ∷ [])
 loud x s t name moments fired stands latest =
     record { most = still.most; kept = still.kept; order = still.order; last = last; live = live } where
-  still : RuleStandsFor x (noted_in s x t name false) (moments ++ t ∷ []) fired
-  still = quiet x s t name moments fired stands latest
+      still : RuleStandsFor x (noted_in s x t name false) (moments ++ t ∷ []) fired
+      still = quiet x s t name moments fired stands latest
 
-  e : ℕ
-  e = max (end_of t x.duration) (last_end s.firings)
+      e : ℕ
+      e = max (end_of t x.duration) (last_end s.firings)
 
-  ends : e ≡ end_of t x.duration
-  ends = omega (arith, stands.last t latest)
+      ends : e ≡ end_of t x.duration
+      ends = omega (arith, stands.last t latest)
 
-  f : Firing
-  f = kept_firing x.action e name
+      f : Firing
+      f = kept_firing x.action e name
 
-  last : (u : ℕ) → AllByRecursion (λ s. s ≤ u) (moments ++ t ∷ []) → last_end (without_over t (s.firings ++ f ∷ [])) ≤ end_of u x.duration
-  last u all =
-      let later = (all_front (λ s. s ≤ u) moments t all).1 in
-      last_without t (end_of u x.duration) (s.firings ++ f ∷ []) (omega (arith, last_end-push s.firings f, ends, later))
+      last : (u : ℕ) → AllByRecursion (λ s. s ≤ u) (moments ++ t ∷ []) → last_end (without_over t (s.firings ++ f ∷ [])) ≤ end_of u x.duration
+      last u all =
+          let later = (all_front (λ s. s ≤ u) moments t all).1 in
+          last_without t (end_of u x.duration) (s.firings ++ f ∷ []) (omega (arith, last_end-push s.firings f, ends, later))
 
-  live : (u : ℕ) → AllByRecursion (λ s. s ≤ u) (moments ++ t ∷ [])
-      → filter (is_live u) (without_over t (s.firings ++ f ∷ [])) ≡ filter (is_live u) (fired ++ kept_firing x.action (end_of t x.duration) name ∷ [])
-  live u all =
-      let parts = all_front (λ s. s ≤ u) moments t all in
-      live_without t u (s.firings ++ f ∷ []) parts.1
-      ∙ filter-append (is_live u) s.firings (f ∷ [])
-      ∙ ap (λ fs. fs ++ filter (is_live u) (f ∷ [])) (stands.live u parts.0)
-      ∙ sym (filter-append (is_live u) fired (f ∷ []))
-      ∙ ap (λ n. filter (is_live u) (fired ++ kept_firing x.action n name ∷ [])) ends
+      live : (u : ℕ) → AllByRecursion (λ s. s ≤ u) (moments ++ t ∷ [])
+          → filter (is_live u) (without_over t (s.firings ++ f ∷ [])) ≡ filter (is_live u) (fired ++ kept_firing x.action (end_of t x.duration) name ∷ [])
+      live u all =
+          let parts = all_front (λ s. s ≤ u) moments t all in
+          live_without t u (s.firings ++ f ∷ []) parts.1
+          ∙ filter-append (is_live u) s.firings (f ∷ [])
+          ∙ ap (λ fs. fs ++ filter (is_live u) (f ∷ [])) (stands.live u parts.0)
+          ∙ sym (filter-append (is_live u) fired (f ∷ []))
+          ∙ ap (λ n. filter (is_live u) (fired ++ kept_firing x.action n name ∷ [])) ends

@@ -1,19 +1,17 @@
 -- An automaton takes one match or one path more.
-use Rattle.std.proofs.Common.{◌≡◌, ◌≢◌, ◌≤◌, ◌<◌, ◌+◌, ◌-◌, ◌⊎◌, inl, inr, ℕ, refl, sym, ap, ◌∙◌, subst, arith, Bool, true, false, ◌&&◌, ◌==◌, nat_eq, Option, Some, None, List, [], ◌∷◌, ◌++◌, length, get_or, set, drop, map, filter, get_or-set_same, get_or-set_other, length-set, length-append, option_map, option_and_then, cond}
+use Rattle.std.proofs.Common.{◌≡◌, ◌≤◌, ◌<◌, ◌+◌, ◌-◌, ◌⊎◌, inl, inr, ℕ, refl, sym, ap, ◌∙◌, subst, arith, Bool, true, false, ◌&&◌, ◌==◌, nat_eq, Option, Some, None, List, [], ◌∷◌, ◌++◌, length, get_or, set, drop, map, filter, get_or-set_same, get_or-set_other, length-set, length-append, option_map, option_and_then, cond}
 use Rattle.std.specs.Prelude.{slice_get, Result, Ok, Err, IfOk, OnOk}
 use Rattle.std.specs.List.{All, AllByRecursion}
 use Rattle.std.proofs.lemmas.Bool.{cases_eq, cases_lt, eqb-true, eq-eqb, false≢true}
-use Rattle.std.proofs.lemmas.Option.{slice_get-map, slice_get-get_or, get_or_from_slice_get, slice_get_within, slice_get_past}
+use Rattle.std.proofs.lemmas.Option.{slice_get-map, get_or_from_slice_get, slice_get_within, slice_get_past}
 use Rattle.std.proofs.Math.Seq.{map-set_same, get_or-append_seam}
 use Rattle.std.proofs.Math.ListN.{get_or-map}
-use Rattle.std.proofs.lemmas.List.{get_or_default, get_or_append_left, get_or-append-add, length-map, map-append, map-set}
+use Rattle.std.proofs.lemmas.List.{get_or_default, get_or_append_left, length-map, map-append}
 use Rattle.std.proofs.lemmas.List.Elements.{All-push, All-set, All-get_or, All-weaker, recursion_from_All}
 use Rattle.circular_buffer.proofs.Places.{slice_get-append_left}
 use Rattle.queue_name.specs.QueueName.{Name}
-use Rattle.policy_core.specs.Automation.{is_fired}
 use Rattle.policy_core.specs.declared.rules.Rule.{Rule}
 use Rattle.policy_core.specs.declared.site.PathBase.{PathBase}
-use Rattle.automation_rules.specs.declared.firing.Firing.{Firing}
 use Rattle.automation_rules.specs.Memory.{RuleMemory, PathMemory, blank_rule, looks_back}
 use Rattle.automation_rules.specs.Matches.{PathRules, Noted, IsLatest, rule_in, rule_at, noted_by, is_of, moments_of, is_firing, firings_of}
 use Rattle.automation_rules.specs.Standing.{paths_of, kept_of, kept_firings, RuleStandsFor, StandsFor}
@@ -103,21 +101,21 @@ pub own_stands : (x : Rule) (s : RuleMemory) (path number t : ℕ) (name : Name)
     → RuleStandsFor x (noted_in s x t name fires) (moments_of path number (ms ++ m ∷ [])) (kept_firings path number (ms ++ m ∷ []))
 own_stands x s path number t name ms m fires is same right latest stands =
     subst (λ moments. RuleStandsFor x (noted_in s x t name fires) moments (kept_firings path number (ms ++ m ∷ []))) moments (by fires refl) where
-  moments : moments_of path number ms ++ t ∷ [] ≡ moments_of path number (ms ++ m ∷ [])
-  moments = sym (moments_more path number ms m same ∙ ap (λ (n : Noted). moments_of path number ms ++ n.at ∷ []) is)
+      moments : moments_of path number ms ++ t ∷ [] ≡ moments_of path number (ms ++ m ∷ [])
+      moments = sym (moments_more path number ms m same ∙ ap (λ (n : Noted). moments_of path number ms ++ n.at ∷ []) is)
 
-  before : AllByRecursion (λ s. s ≤ t) (moments_of path number ms)
-  before = latest_moments t path number ms (recursion_from_All (λ (n : Noted). n.at ≤ t) ms latest)
+      before : AllByRecursion (λ s. s ≤ t) (moments_of path number ms)
+      before = latest_moments t path number ms (recursion_from_All (λ (n : Noted). n.at ≤ t) ms latest)
 
-  by : (b : Bool) → fires ≡ b → RuleStandsFor x (noted_in s x t name fires) (moments_of path number ms ++ t ∷ []) (kept_firings path number (ms ++ m ∷ []))
-  by true at =
-      subst (λ b. RuleStandsFor x (noted_in s x t name b) (moments_of path number ms ++ t ∷ []) (kept_firings path number (ms ++ m ∷ []))) (sym at)
-      (subst (RuleStandsFor x (noted_in s x t name true) (moments_of path number ms ++ t ∷ []))
+      by : (b : Bool) → fires ≡ b → RuleStandsFor x (noted_in s x t name fires) (moments_of path number ms ++ t ∷ []) (kept_firings path number (ms ++ m ∷ []))
+      by true at =
+          subst (λ b. RuleStandsFor x (noted_in s x t name b) (moments_of path number ms ++ t ∷ []) (kept_firings path number (ms ++ m ∷ []))) (sym at)
+          (subst (RuleStandsFor x (noted_in s x t name true) (moments_of path number ms ++ t ∷ []))
           (sym (kept_loud path number ms m same (sym right ∙ at) ∙ ap (λ n. kept_firings path number ms ++ kept_of n ∷ []) is))
           (loud x s t name (moments_of path number ms) (kept_firings path number ms) stands before))
-  by false at =
-      subst (λ b. RuleStandsFor x (noted_in s x t name b) (moments_of path number ms ++ t ∷ []) (kept_firings path number (ms ++ m ∷ []))) (sym at)
-      (subst (RuleStandsFor x (noted_in s x t name false) (moments_of path number ms ++ t ∷ []))
+      by false at =
+          subst (λ b. RuleStandsFor x (noted_in s x t name b) (moments_of path number ms ++ t ∷ []) (kept_firings path number (ms ++ m ∷ []))) (sym at)
+          (subst (RuleStandsFor x (noted_in s x t name false) (moments_of path number ms ++ t ∷ []))
           (sym (kept_quiet path number ms m (sym right ∙ at)))
           (quiet x s t name (moments_of path number ms) (kept_firings path number ms) stands before))
 
@@ -156,76 +154,76 @@ pub stands_noted : (state : List PathMemory) (ms : List Noted) (path place t : �
     → StandsFor (set state path q) (ms ++ m ∷ [])
 stands_noted state ms path place t name m x p q s fires stands latest rule is right here there mine within inside base site rules =
     record { known = known; whole = whole; rules = each } where
-  same_paths : paths_of (set state path q) ≡ paths_of state
-  same_paths = map-set_same rules_of state path q p (cc (base, site)) where
-    rules_of : PathMemory → PathRules
-    rules_of r = record { base = r.base; site = r.site }
+      same_paths : paths_of (set state path q) ≡ paths_of state
+      same_paths = map-set_same rules_of state path q p (cc (base, site)) where
+        rules_of : PathMemory → PathRules
+        rules_of r = record { base = r.base; site = r.site }
 
-  m_path : m.path ≡ path
-  m_path = ap (λ (n : Noted). n.path) is
+      m_path : m.path ≡ path
+      m_path = ap (λ (n : Noted). n.path) is
 
-  m_number : m.number ≡ place + 1
-  m_number = ap (λ (n : Noted). n.number) is
+      m_number : m.number ≡ place + 1
+      m_number = ap (λ (n : Noted). n.number) is
 
-  m_rule : m.rule ≡ x
-  m_rule = ap (λ (n : Noted). n.rule) is
+      m_rule : m.rule ≡ x
+      m_rule = ap (λ (n : Noted). n.rule) is
 
-  known : All (λ n. rule_at (paths_of (set state path q)) n.path n.number ≡ Some n.rule) (ms ++ m ∷ [])
-  known =
-      subst (λ ps. All (λ (n : Noted). rule_at ps n.path n.number ≡ Some n.rule) (ms ++ m ∷ [])) (sym same_paths)
-      (All-push (λ n. rule_at (paths_of state) n.path n.number ≡ Some n.rule) ms m stands.known
-      (ap (λ k. rule_at (paths_of state) k m.number) m_path ∙ ap (rule_at (paths_of state) path) m_number ∙ rule ∙ ap Some (sym m_rule)))
+      known : All (λ n. rule_at (paths_of (set state path q)) n.path n.number ≡ Some n.rule) (ms ++ m ∷ [])
+      known =
+          subst (λ ps. All (λ (n : Noted). rule_at ps n.path n.number ≡ Some n.rule) (ms ++ m ∷ [])) (sym same_paths)
+          (All-push (λ n. rule_at (paths_of state) n.path n.number ≡ Some n.rule) ms m stands.known
+          (ap (λ k. rule_at (paths_of state) k m.number) m_path ∙ ap (rule_at (paths_of state) path) m_number ∙ rule ∙ ap Some (sym m_rule)))
 
-  long : length p.rules ≡ length p.base.rules
-  long = subst (λ (r : PathMemory). length r.rules ≡ length r.base.rules) (sym here) (All-get_or (λ r. length r.rules ≡ length r.base.rules) state path p within stands.whole)
+      long : length p.rules ≡ length p.base.rules
+      long = subst (λ (r : PathMemory). length r.rules ≡ length r.base.rules) (sym here) (All-get_or (λ r. length r.rules ≡ length r.base.rules) state path p within stands.whole)
 
-  whole : All (λ r. length r.rules ≡ length r.base.rules) (set state path q)
-  whole =
-      All-set (λ r. length r.rules ≡ length r.base.rules) state path q
-      (ap (λ (rs : List RuleMemory). length rs) rules ∙ length-set p.rules place (noted_in s x t name fires) ∙ long ∙ ap (λ (b : PathBase). length b.rules) (sym base))
-      stands.whole
+      whole : All (λ r. length r.rules ≡ length r.base.rules) (set state path q)
+      whole =
+          All-set (λ r. length r.rules ≡ length r.base.rules) state path q
+          (ap (λ (rs : List RuleMemory). length rs) rules ∙ length-set p.rules place (noted_in s x t name fires) ∙ long ∙ ap (λ (b : PathBase). length b.rules) (sym base))
+          stands.whole
 
-  each : (path1 place1 : ℕ) (p1 : PathMemory) (x1 : Rule) (s1 : RuleMemory) → path1 < length (set state path q) → p1 ≡ get_or (set state path q) path1 p1
-      → place1 < length p1.rules → x1 ≡ get_or p1.base.rules place1 x1 → s1 ≡ get_or p1.rules place1 s1
-      → RuleStandsFor x1 s1 (moments_of path1 (place1 + 1) (ms ++ m ∷ [])) (kept_firings path1 (place1 + 1) (ms ++ m ∷ []))
-  each path1 place1 p1 x1 s1 within1 here1 inside1 there1 mine1 = by (cases_eq path1 path) where
-    state_within : path1 < length state
-    state_within = omega (arith, length-set state path q)
+      each : (path1 place1 : ℕ) (p1 : PathMemory) (x1 : Rule) (s1 : RuleMemory) → path1 < length (set state path q) → p1 ≡ get_or (set state path q) path1 p1
+          → place1 < length p1.rules → x1 ≡ get_or p1.base.rules place1 x1 → s1 ≡ get_or p1.rules place1 s1
+          → RuleStandsFor x1 s1 (moments_of path1 (place1 + 1) (ms ++ m ∷ [])) (kept_firings path1 (place1 + 1) (ms ++ m ∷ []))
+      each path1 place1 p1 x1 s1 within1 here1 inside1 there1 mine1 = by (cases_eq path1 path) where
+        state_within : path1 < length state
+        state_within = omega (arith, length-set state path q)
 
-    by : (path1 ≡ path) ⊎ (path1 ≡ path → ⊥) → RuleStandsFor x1 s1 (moments_of path1 (place1 + 1) (ms ++ m ∷ [])) (kept_firings path1 (place1 + 1) (ms ++ m ∷ []))
-    by (inr ne) =
-        let here2 = here1 ∙ get_or-set_other state path path1 q p1 ne in
-        other_stands x1 s1 path1 (place1 + 1) ms m (other_path path1 (place1 + 1) m (λ e. ne (sym e ∙ m_path)))
-        (stands.rules path1 place1 p1 x1 s1 state_within here2 inside1 there1 mine1)
-    by (inl same) = by_place (cases_eq place1 place) where
-      it : p1 ≡ q
-      it = here1 ∙ ap (λ k. get_or (set state path q) k p1) same ∙ get_or-set_same state path q p1 within
+        by : (path1 ≡ path) ⊎ (path1 ≡ path → ⊥) → RuleStandsFor x1 s1 (moments_of path1 (place1 + 1) (ms ++ m ∷ [])) (kept_firings path1 (place1 + 1) (ms ++ m ∷ []))
+        by (inr ne) =
+            let here2 = here1 ∙ get_or-set_other state path path1 q p1 ne in
+            other_stands x1 s1 path1 (place1 + 1) ms m (other_path path1 (place1 + 1) m (λ e. ne (sym e ∙ m_path)))
+            (stands.rules path1 place1 p1 x1 s1 state_within here2 inside1 there1 mine1)
+        by (inl same) = by_place (cases_eq place1 place) where
+          it : p1 ≡ q
+          it = here1 ∙ ap (λ k. get_or (set state path q) k p1) same ∙ get_or-set_same state path q p1 within
 
-      rules1 : p1.rules ≡ set p.rules place (noted_in s x t name fires)
-      rules1 = ap (λ (r : PathMemory). r.rules) it ∙ rules
+          rules1 : p1.rules ≡ set p.rules place (noted_in s x t name fires)
+          rules1 = ap (λ (r : PathMemory). r.rules) it ∙ rules
 
-      base1 : p1.base ≡ p.base
-      base1 = ap (λ (r : PathMemory). r.base) it ∙ base
+          base1 : p1.base ≡ p.base
+          base1 = ap (λ (r : PathMemory). r.base) it ∙ base
 
-      inside2 : place1 < length p.rules
-      inside2 = omega (arith, ap (λ (rs : List RuleMemory). length rs) rules1, length-set p.rules place (noted_in s x t name fires))
+          inside2 : place1 < length p.rules
+          inside2 = omega (arith, ap (λ (rs : List RuleMemory). length rs) rules1, length-set p.rules place (noted_in s x t name fires))
 
-      there2 : x1 ≡ get_or p.base.rules place1 x1
-      there2 = there1 ∙ ap (λ (b : PathBase). get_or b.rules place1 x1) base1
+          there2 : x1 ≡ get_or p.base.rules place1 x1
+          there2 = there1 ∙ ap (λ (b : PathBase). get_or b.rules place1 x1) base1
 
-      mine2 : s1 ≡ get_or (set p.rules place (noted_in s x t name fires)) place1 s1
-      mine2 = mine1 ∙ ap (λ rs. get_or rs place1 s1) rules1
+          mine2 : s1 ≡ get_or (set p.rules place (noted_in s x t name fires)) place1 s1
+          mine2 = mine1 ∙ ap (λ rs. get_or rs place1 s1) rules1
 
-      by_place : (place1 ≡ place) ⊎ (place1 ≡ place → ⊥) → RuleStandsFor x1 s1 (moments_of path1 (place1 + 1) (ms ++ m ∷ [])) (kept_firings path1 (place1 + 1) (ms ++ m ∷ []))
-      by_place (inr ne) =
-          other_stands x1 s1 path1 (place1 + 1) ms m (other_number path1 (place1 + 1) m (λ e. ne (omega (arith, e, m_number))))
-          (stands.rules path1 place1 p x1 s1 state_within (here ∙ ap (λ k. get_or state k p) (sym same)) inside2 there2
+          by_place : (place1 ≡ place) ⊎ (place1 ≡ place → ⊥) → RuleStandsFor x1 s1 (moments_of path1 (place1 + 1) (ms ++ m ∷ [])) (kept_firings path1 (place1 + 1) (ms ++ m ∷ []))
+          by_place (inr ne) =
+              other_stands x1 s1 path1 (place1 + 1) ms m (other_number path1 (place1 + 1) m (λ e. ne (omega (arith, e, m_number))))
+              (stands.rules path1 place1 p x1 s1 state_within (here ∙ ap (λ k. get_or state k p) (sym same)) inside2 there2
               (mine2 ∙ get_or-set_other p.rules place place1 (noted_in s x t name fires) s1 ne))
-      by_place (inl e) =
-          let s_is = mine2 ∙ ap (λ k. get_or (set p.rules place (noted_in s x t name fires)) k s1) e ∙ get_or-set_same p.rules place (noted_in s x t name fires) s1 inside in
-          let x_is = there2 ∙ ap (λ k. get_or p.base.rules k x1) e ∙ get_or_default p.base.rules place x1 x (omega (arith, long)) ∙ sym there in
-          moved path path1 place place1 x x1 (noted_in s x t name fires) s1 (ms ++ m ∷ []) (sym same) (sym e) (sym x_is) (sym s_is)
-          (own_stands x s path (place + 1) t name ms m fires is (test_of path (place + 1) m m_number m_path) right latest
+          by_place (inl e) =
+              let s_is = mine2 ∙ ap (λ k. get_or (set p.rules place (noted_in s x t name fires)) k s1) e ∙ get_or-set_same p.rules place (noted_in s x t name fires) s1 inside in
+              let x_is = there2 ∙ ap (λ k. get_or p.base.rules k x1) e ∙ get_or_default p.base.rules place x1 x (omega (arith, long)) ∙ sym there in
+              moved path path1 place place1 x x1 (noted_in s x t name fires) s1 (ms ++ m ∷ []) (sym same) (sym e) (sym x_is) (sym s_is)
+              (own_stands x s path (place + 1) t name ms m fires is (test_of path (place + 1) m m_number m_path) right latest
               (stands.rules path place p x s within here inside there mine))
 
 -- a path that nothing matched yet
@@ -289,31 +287,30 @@ stands_added state ms p stands blank = record { known = known; whole = whole; ru
     by (inr past) =
         subst (λ moments. RuleStandsFor x1 s1 moments (kept_firings path1 (place1 + 1) ms)) (sym moments)
         (subst (RuleStandsFor x1 s1 []) (sym fired) (subst (λ s. RuleStandsFor x1 s [] []) (sym s_is) (blank_stands x1))) where
-      last : path1 ≡ length state
-      last = omega (arith, length-append state one)
+          last : path1 ≡ length state
+          last = omega (arith, length-append state one)
 
-      it : p1 ≡ p
-      it = here1 ∙ ap (λ k. get_or (state ++ one) k p1) last ∙ get_or-append_seam state p [] p1
+          it : p1 ≡ p
+          it = here1 ∙ ap (λ k. get_or (state ++ one) k p1) last ∙ get_or-append_seam state p [] p1
 
-      rules1 : p1.rules ≡ map blank_rule p1.base.rules
-      rules1 = subst (λ (r : PathMemory). r.rules ≡ map blank_rule r.base.rules) (sym it) blank
+          rules1 : p1.rules ≡ map blank_rule p1.base.rules
+          rules1 = subst (λ (r : PathMemory). r.rules ≡ map blank_rule r.base.rules) (sym it) blank
 
-      s_is : s1 ≡ blank_rule x1
-      s_is =
-          mine1 ∙ get_or_default p1.rules place1 s1 (blank_rule x1) inside1 ∙ ap (λ rs. get_or rs place1 (blank_rule x1)) rules1
-          ∙ get_or-map blank_rule p1.base.rules place1 x1 ∙ ap blank_rule (sym there1)
+          s_is : s1 ≡ blank_rule x1
+          s_is =
+              mine1 ∙ get_or_default p1.rules place1 s1 (blank_rule x1) inside1 ∙ ap (λ rs. get_or rs place1 (blank_rule x1)) rules1
+              ∙ get_or-map blank_rule p1.base.rules place1 x1 ∙ ap blank_rule (sym there1)
 
-      below : AllByRecursion (λ n. n.path < path1) ms
-      below = subst (λ k. AllByRecursion (λ (n : Noted). n.path < k) ms) (sym last) (recursion_from_All (λ (n : Noted). n.path < length state) ms paths_below)
+          below : AllByRecursion (λ n. n.path < path1) ms
+          below = subst (λ k. AllByRecursion (λ (n : Noted). n.path < k) ms) (sym last) (recursion_from_All (λ (n : Noted). n.path < length state) ms paths_below)
 
-      moments : moments_of path1 (place1 + 1) ms ≡ []
-      moments = ap (map (λ (n : Noted). n.at)) (none_kept path1 (place1 + 1) ms below)
+          moments : moments_of path1 (place1 + 1) ms ≡ []
+          moments = ap (map (λ (n : Noted). n.at)) (none_kept path1 (place1 + 1) ms below)
 
-      fired : kept_firings path1 (place1 + 1) ms ≡ []
-      fired =
-          ap (map kept_of) (none_kept path1 (place1 + 1) (firings_of ms)
-          (subst (λ k. AllByRecursion (λ (n : Noted). n.path < k) (firings_of ms)) (sym last) (all_firings (λ (n : Noted). n.path < length state) ms paths_below)))
-
+          fired : kept_firings path1 (place1 + 1) ms ≡ []
+          fired =
+              ap (map kept_of) (none_kept path1 (place1 + 1) (firings_of ms)
+              (subst (λ k. AllByRecursion (λ (n : Noted). n.path < k) (firings_of ms)) (sym last) (all_firings (λ (n : Noted). n.path < length state) ms paths_below)))
 
 -- at an Ok of which two facts are known
 pub ok_both : {A E : Type 0} (r : Result A E) (P Q : A → Type 0) (G : Type 0) → IfOk r P → IfOk r Q → ((a : A) → P a → Q a → G) → OnOk r G

@@ -1,11 +1,11 @@
 -- So many moments lie in a window exactly where the last but so many does.
-use Rattle.std.proofs.Common.{◌≡◌, ◌≤◌, ◌<◌, ◌+◌, ◌-◌, ◌⊎◌, inl, inr, ℕ, zero, suc, refl, sym, ap, ◌∙◌, subst, arith, Bool, true, false, cond, Option, Some, None, List, [], ◌∷◌, ◌++◌, length, drop, filter, length-append, length-drop, count_by}
+use Rattle.std.proofs.Common.{◌≡◌, ◌≤◌, ◌<◌, ◌+◌, ◌-◌, ◌⊎◌, inl, inr, ℕ, zero, suc, refl, sym, ap, ◌∙◌, arith, Bool, true, false, cond, None, List, [], ◌∷◌, ◌++◌, length, drop, filter, length-append, length-drop, count_by}
 use Rattle.std.specs.Prelude.{nat_le, nat_lt, slice_get}
 use Rattle.std.specs.List.{AllByRecursion}
 use Rattle.std.proofs.lemmas.Bool.{cases_lt, leb-true, le-leb}
 use Rattle.std.proofs.lemmas.List.Sums.{length-filter}
 use Rattle.circular_buffer.specs.Buffer.{keep_last}
-use Rattle.circular_buffer.proofs.Places.{slice_get-drop, slice_get-append_left, slice_get-append_right}
+use Rattle.circular_buffer.proofs.Places.{slice_get-drop}
 use Rattle.kumo_base.specs.Moment.{clamped}
 use Rattle.automation_rules.specs.Memory.{IsAscending}
 use Rattle.automation_rules.specs.inside.Last.{nth_last, passes}

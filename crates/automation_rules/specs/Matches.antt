@@ -1,6 +1,6 @@
 -- Matches of the rules of paths in the order in which they were noted, which of them fired their rules, and what is in force by
 -- these firings (KumoMTA's manual, the shaping helper's automation).
-use Rattle.std.specs.Prelude.{◌≡◌, ◌≤◌, ℕ, ◌-◌, ◌==◌, List, [], ◌∷◌, ◌++◌, Bool, false, ◌&&◌, Option, Some, None, min, map, filter, slice_get, is_some, unwrap_or, option_map, option_and_then, if◌then◌else◌}
+use Rattle.std.specs.Prelude.{◌≤◌, ℕ, ◌-◌, ◌==◌, List, [], ◌∷◌, ◌++◌, Bool, false, ◌&&◌, Option, Some, None, min, map, filter, slice_get, is_some, unwrap_or, option_map, option_and_then, if◌then◌else◌}
 use Rattle.std.specs.List.{All, list_any}
 use Rattle.kumo_outside.specs.Search.{found}
 use Rattle.queue_name.specs.QueueName.{Name}

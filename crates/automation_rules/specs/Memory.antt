@@ -1,5 +1,5 @@
 -- What an automaton keeps of the matches that it was told.
-use Rattle.std.specs.Prelude.{◌≤◌, ℕ, List, [], ◌∷◌, ⊤, map, Bool, true, false, Option, None, nat_lt, if◌then◌else◌}
+use Rattle.std.specs.Prelude.{◌≤◌, ℕ, List, [], ◌∷◌, ⊤, map, Bool, true, false, None, nat_lt, if◌then◌else◌}
 use Rattle.std.specs.List.{AllByRecursion}
 use Rattle.queue_name.specs.QueueName.{Name}
 use Rattle.policy_core.specs.declared.site.Site.{Site}

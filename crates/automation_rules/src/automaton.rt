@@ -60,13 +60,7 @@ impl Automaton {
 
     /// Notes a match of a rule of a path, which is numbered from 1, by the reply to a message of a queue. It answers whether the
     /// match fires the rule. After `Memory` all is as it was.
-    pub fn note(
-        &mut self,
-        path: u32,
-        rule: u32,
-        t: u64,
-        name: &QueueName,
-    ) -> Result<bool, Memory>
+    pub fn note(&mut self, path: u32, rule: u32, t: u64, name: &QueueName) -> Result<bool, Memory>
         requires { has_rule (paths_of self.old) path rule ≡ true }
         ensures paths { OnOk result (paths_of self.new ≡ paths_of self.old) }
         ensures fires { (matches : List Noted) (m : Noted) → StandsFor self.old matches → IsLatest t matches

@@ -55,7 +55,6 @@ impl Ring {
         Ok(())
     }
 
-    #[tactic(auto, using(crate::proofs::WindowLemmas::window))]
     /// Whether a match at a moment fires a rule of this trigger, where these are the last of the moments of its matches before.
     pub(crate) fn fires(&self, trigger: &Trigger, t: u64) -> bool
         ensures { (moments : List ℕ) → self.now.moments ≡ keep_last (looks_back trigger.now) moments

@@ -1,4 +1,4 @@
-use Rattle.std.proofs.Common.{◌≡◌, ◌∷◌, ◌++◌, [], ap, sym, ◌∙◌, subst, map}
+use Rattle.std.proofs.Common.{◌∷◌, ◌++◌, [], ap, sym, ◌∙◌, subst, map}
 use Rattle.automation_rules.specs.Memory.{PathMemory, blank_rule}
 use Rattle.automation_rules.specs.Standing.{StandsFor}
 use Rattle.automation_rules.proofs.StandingSteps.{stands_added}

@@ -1,4 +1,4 @@
-use Rattle.std.proofs.Common.{Some, ap, ◌∙◌, get_or}
+use Rattle.std.proofs.Common.{ap, ◌∙◌, get_or}
 use Rattle.automation_rules.proofs.QueryLemmas.{halted_answer}
 use Rattle.automation_rules.proofs.automaton.Automaton.halted.Goals as goal
 

@@ -1,4 +1,4 @@
-use Rattle.std.proofs.Common.{◌≡◌, [], ◌∷◌, ◌++◌, ap, sym, ◌∙◌, subst, get_or, set}
+use Rattle.std.proofs.Common.{[], ◌∷◌, ◌++◌, ap, sym, ◌∙◌, subst, get_or, set}
 use Rattle.std.specs.Prelude.{OnOk}
 use Rattle.automation_rules.specs.Standing.{paths_of, StandsFor}
 use Rattle.automation_rules.proofs.StandingSteps.{ok_always}
@@ -24,4 +24,4 @@ returns-clause-stands c matches m stands latest by =
     let fires = returns-clause-fires c matches m stands latest by in
     subst (λ ps. OnOk c.note.result (StandsFor (set ps c.args.path c.note.new.self) (matches ++ m ∷ []))) (sym c.self.view_is)
     (noted_step c.args.self.now matches c.args.path c.args.rule c.args.t c.args.name.now m p c.note.new.self c.note.result stands latest by here fires
-        c.note.ensures.base c.note.ensures.site c.note.ensures.rules)
+    c.note.ensures.base c.note.ensures.site c.note.ensures.rules)

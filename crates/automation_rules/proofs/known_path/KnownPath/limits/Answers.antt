@@ -2,7 +2,6 @@ use Rattle.std.proofs.Common.{refl, filter, ap, ◌∙◌}
 use Rattle.std.specs.List.{list_any}
 use Rattle.policy_core.specs.PathOptions.{in_force_of}
 use Rattle.policy_core.specs.Automation.{limits_of, numbered_rules}
-use Rattle.policy_core.specs.declared.options.InForce.{InForce}
 use Rattle.automation_rules.specs.Memory.{PathMemory, is_live}
 use Rattle.automation_rules.specs.inside.Setting.{with_rules}
 use Rattle.automation_rules.specs.inside.Showing.{firings_at}

@@ -1,4 +1,4 @@
-use Rattle.std.proofs.Common.{◌≡◌, ◌<◌, ◌+◌, ◌||◌, ◌∙◌, ℕ, Bool, ap, sym, length, nat_le, filter, drop, rules, arith}
+use Rattle.std.proofs.Common.{◌<◌, ◌+◌, ◌||◌, ◌∙◌, ℕ, Bool, ap, sym, length, nat_le, filter, drop, rules}
 use Rattle.std.specs.List.{list_any, enumerate_from}
 use Rattle.policy_core.specs.Automation.{numbered_rules}
 use Rattle.automation_rules.specs.Memory.{is_live}

@@ -1,4 +1,4 @@
-use Rattle.std.proofs.Common.{◌≡◌, ◌≤◌, ◌++◌, ◌∷◌, [], ap, sym, ◌∙◌, arith}
+use Rattle.std.proofs.Common.{◌≡◌, ◌++◌, ◌∷◌, [], ap, sym, ◌∙◌, arith}
 use Rattle.policy_core.specs.Automation.{is_fired}
 use Rattle.automation_rules.specs.Memory.{looks_back}
 use Rattle.circular_buffer.specs.Buffer.{keep_last}

@@ -1,4 +1,4 @@
-use Rattle.std.proofs.Common.{◌≡◌, ◌<◌, ◌∙◌, ap, ℕ, nat_le, length, filter, subst, rules}
+use Rattle.std.proofs.Common.{◌<◌, ◌∙◌, ap, nat_le, length, filter, rules}
 use Rattle.std.specs.List.{list_any}
 use Rattle.automation_rules.specs.declared.firing.Firing.{Firing}
 use Rattle.automation_rules.specs.Memory.{RuleMemory, is_live}

@@ -1,6 +1,6 @@
-use Rattle.std.proofs.Common.{◌≡◌, ◌≤◌, ◌∷◌, ◌++◌, [], ap, sym, ◌∙◌, subst, arith}
+use Rattle.std.proofs.Common.{◌∷◌, ◌++◌, [], ap, sym, ◌∙◌, subst, arith}
 use Rattle.automation_rules.specs.declared.firing.Firing.{Firing}
-use Rattle.automation_rules.specs.Memory.{IsAscending, ends_of, last_end}
+use Rattle.automation_rules.specs.Memory.{IsAscending, ends_of}
 use Rattle.automation_rules.specs.inside.Noting.{without_over}
 use Rattle.automation_rules.proofs.FiringLemmas.{ascending_push, ascending_without}
 use Rattle.automation_rules.proofs.rule_state.RuleState.note.Goals as goal
