@@ -1,5 +1,5 @@
 -- Firings that end in order: which of them are not over, and whether the last one is.
-use Rattle.std.proofs.Common.{◌≡◌, ◌≤◌, ◌<◌, ◌-◌, ◌⊎◌, inl, inr, ℕ, zero, suc, refl, sym, ap, ◌∙◌, arith, Bool, true, false, ◌||◌, cond, List, [], ◌∷◌, ◌++◌, length, drop, filter, get_or, nat_le}
+use Rattle.std.proofs.Common.{◌≡◌, ◌≤◌, ◌<◌, ◌-◌, ◌⊎◌, inl, inr, ℕ, zero, suc, refl, sym, ap, subst, ◌∙◌, arith, Bool, true, false, ◌||◌, cond, List, [], ◌∷◌, ◌++◌, length, drop, filter, get_or, nat_le}
 use Rattle.std.specs.List.{AllByRecursion, list_any}
 use Rattle.std.specs.List.Sorted.{IsPartitionedBy, IsPartitionPoint}
 use Rattle.std.proofs.lemmas.List.{get_or_default}
@@ -148,3 +148,9 @@ ascending_without t (f ∷ fs) order = by (is_live t f) refl (ascending_without 
   by : (b : Bool) → is_live t f ≡ b → IsAscending (ends_of (without_over t fs)) → IsAscending (ends_of (without_over t (f ∷ fs)))
   by true is more = rw is order
   by false is more = rw is more
+
+-- the same of a list that is told by what was done to it
+pub ascending_noted : (t : ℕ) (fs gs hs : List Firing) (f : Firing) → hs ≡ without_over t gs → gs ≡ fs ++ f ∷ [] → IsAscending (ends_of fs) → last_end fs ≤ f.end
+    → IsAscending (ends_of hs)
+ascending_noted t fs gs hs f is made order below =
+    subst (λ ks. IsAscending (ends_of ks)) (sym (is ∙ ap (without_over t) made)) (ascending_without t (fs ++ f ∷ []) (ascending_push fs f order below))

@@ -2,7 +2,8 @@
 //!
 //! Firings stand in the order in which they came. All of one rule last equally long, so they end in that order too: those that are
 //! over stand in front, and whether any is in force the last one tells. A new firing makes those go that are over.
-ghost use Rattle.std.specs.Prelude.{◌≡◌, ◌≤◌, ◌++◌, ◌∷◌, [], ℕ, List, map, filter, length, drop, nat_le, IfOk, OnErr};
+ghost use Rattle.std.specs.VecDeque.{deque_len, deque_capacity};
+ghost use Rattle.std.specs.Prelude.{◌<◌, ◌≡◌, ◌≤◌, ◌++◌, ◌∷◌, [], ℕ, List, map, filter, length, drop, nat_le, IfOk, OnErr};
 ghost use Rattle.std.specs.List.{list_any};
 ghost use Rattle.circular_buffer.specs.Buffer.{keep_last};
 ghost use Rattle.policy_core.specs.Automation.{is_fired, covers};
@@ -71,8 +72,7 @@ impl RuleState {
         let firing = Firing::of(alloc, &rule.action, end, name)?;
         self.firings.reserve(1)?;
         self.ring.add(t)?;
-        self.firings.push_back_reserved(firing);
-        drop_over(&mut self.firings, t);
+        keep(&mut self.firings, firing, t);
         Ok(true)
     }
 
@@ -142,6 +142,19 @@ fn last_end(firings: &VecDeque<Firing>) -> u64
         Some(last) => last.end,
         None => 0,
     }
+}
+
+/// Adds a firing, for which there is room and which ends no earlier than the others, and lets the firings go that are over.
+#[tactic(auto, using(crate::proofs::FiringLemmas::ascending_noted))]
+fn keep(firings: &mut VecDeque<Firing>, firing: Firing, t: u64)
+    requires room { deque_len firings.old < deque_capacity firings.old }
+    requires order { IsAscending (ends_of firings.old.items) }
+    requires last { last_end firings.old.items ≤ firing.end }
+    ensures items { firings.new.items ≡ without_over t (firings.old.items ++ firing ∷ []) }
+    ensures order { IsAscending (ends_of firings.new.items) }
+{
+    firings.push_back_reserved(firing);
+    drop_over(firings, t);
 }
 
 /// Lets the firings go that are over at a moment, up to the first that is not.
