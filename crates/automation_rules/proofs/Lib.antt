@@ -1,0 +1,10 @@
+pub mod WindowLemmas
+pub mod FiringLemmas
+pub mod RuleWalks
+pub mod AnyLemmas
+pub mod RuleSteps
+pub mod MatchSteps
+pub mod StandingSteps
+pub mod NoteSteps
+pub mod KeyLemmas
+pub mod QueryLemmas

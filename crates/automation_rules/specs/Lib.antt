@@ -1,0 +1,4 @@
+pub mod Memory
+pub mod Matches
+pub mod Standing
+pub mod inside
