@@ -58,6 +58,23 @@ impl Automaton {
         Ok(number)
     }
 
+    /// How many paths were added.
+    pub fn len(&self) -> usize
+        ensures { result ≡ length self.now }
+    {
+        self.paths.len()
+    }
+
+    /// Whether a path of this number was added and has a rule of this number. Rules are numbered from 1.
+    pub fn has_rule(&self, path: u32, rule: u32) -> bool
+        ensures { result ≡ has_rule (paths_of self.now) path rule }
+    {
+        match self.paths.get(path as usize) {
+            Some(known) => known.has_rule(rule),
+            None => false,
+        }
+    }
+
     /// Notes a match of a rule of a path, which is numbered from 1, by the reply to a message of a queue. It answers whether the
     /// match fires the rule. After `Memory` all is as it was.
     pub fn note(&mut self, path: u32, rule: u32, t: u64, name: &QueueName) -> Result<bool, Memory>

@@ -1,10 +1,11 @@
 //! A path, and the states of its rules.
-ghost use Rattle.std.specs.Prelude.{◌≡◌, ◌≤◌, ◌<◌, ◌+◌, ◌-◌, ◌++◌, ◌∷◌, ◌||◌, [], ℕ, List, map, length, filter, nat_le, slice_index_or, slice_set, IfOk, OnErr};
+ghost use Rattle.std.specs.Prelude.{◌≡◌, ◌≤◌, ◌<◌, ◌+◌, ◌-◌, ◌++◌, ◌∷◌, ◌||◌, [], ℕ, List, is_some, map, length, filter, nat_le, slice_index_or, slice_set, IfOk, OnErr};
 ghost use Rattle.std.specs.List.{list_any, enumerate_from};
 ghost use Rattle.circular_buffer.specs.Buffer.{keep_last};
 ghost use Rattle.policy_core.specs.Automation.{is_fired, covers, is_suspend, numbered_rules, limits_of};
 ghost use Rattle.policy_core.specs.Site.{is_same_site};
 ghost use Rattle.policy_core.specs.declared.rules.Rule.{Rule as rule_seen};
+ghost use Rattle.automation_rules.specs.Matches.{rule_in};
 ghost use Rattle.automation_rules.specs.Memory.{IsAscending, RuleMemory, looks_back, is_live, name_kept, blank_rule};
 ghost use Rattle.automation_rules.specs.inside.Noting.{noted_in, is_by};
 ghost use Rattle.automation_rules.specs.inside.Setting.{with_rules};
@@ -48,6 +49,20 @@ impl KnownPath {
         let rules = blank_rules(alloc, base.rules.as_slice())?;
         let site = site.copy(alloc)?;
         Ok(KnownPath { base, site, rules })
+    }
+
+    /// Whether the path has a rule of a number, which is counted from 1.
+    pub(crate) fn has_rule(&self, number: u32) -> bool
+        ensures { result ≡ is_some (rule_in self.now.base number) }
+    {
+        if number == 0 {
+            return false;
+        }
+        self.base
+            .rules
+            .as_slice()
+            .get(number as usize - 1)
+            .is_some()
     }
 
     /// Notes a match of the rule at a place. After `Memory` all is as it was.

@@ -1,5 +1,6 @@
 //! The limits of a path: throttles of two keys, a lowered limit, and many calls against a plain list of the calls made.
 use crate::numbers::Numbers;
+use kumo_base::LAST_MOMENT;
 use path_lease::{Leave, Path};
 use policy_core::InForce;
 use std::alloc::Global;
@@ -72,54 +73,103 @@ fn is_closed(path: &mut Path, conn: u64, refused: bool) -> bool {
     idle
 }
 
-#[test]
-fn throttles_of_two_keys(rt: HostRuntime) -> Result<(), Fail> {
-    let mut path = Path::new(rt.alloc());
-    let usual = options(10, 10, Some("1/s"), 0)?;
-    let slowed = options(10, 10, Some("1/s"), 3)?;
-    assert!(rt; is_opened(&mut path, 0, 1, &usual)?);
-    assert!(rt; !is_opened(&mut path, 999, 2, &usual)?);
-    assert!(rt; is_opened(&mut path, 999, 2, &slowed)?);
-    let rows = [
-        (999, &usual, Leave::Yes),
-        (999, &usual, Leave::Throttled(1999)),
-        (999, &slowed, Leave::Yes),
-        (1500, &slowed, Leave::Throttled(1999)),
-        (1998, &usual, Leave::Throttled(1999)),
-        (1999, &usual, Leave::Yes),
-        (1999, &slowed, Leave::Yes),
-    ];
-    for (t, now, wanted) in rows {
-        assert_eq!(rt; begun(&mut path, t, 2, now)?, Some(wanted), "{t}");
-        is_ended(&mut path, t, 2);
+/// Begins an attempt and ends it at once, and says what the answer was.
+fn tried(path: &mut Path, t: u64, conn: u64, now: &InForce) -> Result<Option<Leave>, Fail> {
+    let leave = begun(path, t, conn, now)?;
+    let _ended = is_ended(path, t, conn);
+    Ok(leave)
+}
+
+/// What is asked of a path for a connection, and the answer.
+#[derive(Clone, Copy)]
+enum Asked {
+    Opens(u64, bool),
+    /// An attempt that ends at once.
+    Tries(u64, Leave),
+    /// Refused, after so many refusals in a row with this one.
+    Closes(u64, u32),
+    /// The next admitted moment.
+    Next(u64),
+}
+
+fn expect_answer(
+    rt: &impl Abort,
+    path: &mut Path,
+    t: u64,
+    now: &InForce,
+    asked: Asked,
+) -> Result<(), Fail> {
+    match asked {
+        Asked::Opens(conn, wanted) => assert_eq!(rt; is_opened(path, t, conn, now)?, wanted, "{t}"),
+        Asked::Tries(conn, wanted) => assert_eq!(rt;
+            tried(path, t, conn, now)?,
+            Some(wanted),
+            "{t}"
+        ),
+        Asked::Closes(conn, wanted) => {
+            assert!(rt; is_closed(path, conn, true), "{t}");
+            assert_eq!(rt; path.refusals(), wanted, "{t}");
+        }
+        Asked::Next(wanted) => assert_eq!(rt; path.next_admitted(t, now), wanted, "{t}"),
     }
-    assert_eq!(rt; path.next_admitted(1999, &usual), 2999);
-    assert_eq!(rt; path.next_admitted(2999, &usual), kumo_base::LAST_MOMENT);
+    Ok(())
+}
+
+/// Asks a new path one question after another, each with the options in force of a number.
+fn expect_answers(
+    rt: &impl Abort,
+    alloc: Global,
+    options: &[InForce],
+    rows: &[(u64, usize, Asked)],
+) -> Result<(), Fail> {
+    let mut path = Path::new(alloc);
+    for (t, number, asked) in rows {
+        if let Some(now) = options.get(*number) {
+            expect_answer(rt, &mut path, *t, now, *asked)?;
+        }
+    }
     Ok(())
 }
 
 #[test]
+fn throttles_of_two_keys(rt: HostRuntime) -> Result<(), Fail> {
+    let options = [
+        options(10, 10, Some("1/s"), 0)?,
+        options(10, 10, Some("1/s"), 3)?,
+    ];
+    let rows = [
+        (0, 0, Asked::Opens(1, true)),
+        (999, 0, Asked::Opens(2, false)),
+        (999, 1, Asked::Opens(2, true)),
+        (999, 0, Asked::Tries(2, Leave::Yes)),
+        (999, 0, Asked::Tries(2, Leave::Throttled(1999))),
+        (999, 1, Asked::Tries(2, Leave::Yes)),
+        (1500, 1, Asked::Tries(2, Leave::Throttled(1999))),
+        (1998, 0, Asked::Tries(2, Leave::Throttled(1999))),
+        (1999, 0, Asked::Tries(2, Leave::Yes)),
+        (1999, 1, Asked::Tries(2, Leave::Yes)),
+        (1999, 0, Asked::Next(2999)),
+        (2999, 0, Asked::Next(LAST_MOMENT)),
+    ];
+    expect_answers(&rt, rt.alloc(), &options, &rows)
+}
+
+#[test]
 fn lowered_limit_sheds(rt: HostRuntime) -> Result<(), Fail> {
-    let mut path = Path::new(rt.alloc());
-    let usual = options(2, 10, None, 0)?;
-    let lowered = options(1, 10, None, 0)?;
-    assert!(rt; is_opened(&mut path, 0, 1, &usual)?);
-    assert!(rt; is_opened(&mut path, 0, 2, &usual)?);
-    assert!(rt; !is_opened(&mut path, 0, 3, &usual)?);
-    assert_eq!(rt; begun(&mut path, 0, 1, &lowered)?, Some(Leave::Shed));
-    assert_eq!(rt; path.refusals(), 0);
-    assert!(rt; is_closed(&mut path, 2, true));
-    assert!(rt; !is_closed(&mut path, 2, true));
-    assert_eq!(rt; path.refusals(), 1);
-    assert!(rt; !is_opened(&mut path, 0, 3, &lowered)?);
-    assert_eq!(rt; begun(&mut path, 0, 1, &lowered)?, Some(Leave::Yes));
-    assert_eq!(rt; begun(&mut path, 0, 1, &lowered)?, None);
-    assert!(rt; is_ended(&mut path, 5, 1));
-    assert_eq!(rt; begun(&mut path, 2004, 1, &lowered)?, Some(Leave::Yes));
-    assert!(rt; is_ended(&mut path, 2004, 1));
-    assert_eq!(rt; begun(&mut path, 4004, 1, &lowered)?, Some(Leave::Stale));
-    assert_eq!(rt; path.open_connections(), 1);
-    Ok(())
+    let options = [options(2, 10, None, 0)?, options(1, 10, None, 0)?];
+    let rows = [
+        (0, 0, Asked::Opens(1, true)),
+        (0, 0, Asked::Opens(2, true)),
+        (0, 0, Asked::Opens(3, false)),
+        (0, 1, Asked::Tries(1, Leave::Shed)),
+        (0, 1, Asked::Closes(2, 1)),
+        (0, 1, Asked::Opens(3, false)),
+        (5, 1, Asked::Tries(1, Leave::Yes)),
+        (2004, 1, Asked::Tries(1, Leave::Yes)),
+        (4004, 1, Asked::Tries(1, Leave::Stale)),
+        (4004, 1, Asked::Closes(1, 2)),
+    ];
+    expect_answers(&rt, rt.alloc(), &options, &rows)
 }
 
 /// A call that was made.
@@ -228,30 +278,62 @@ fn is_admitted(list: &[Made], counted: Counted, now: &InForce, t: u64) -> bool {
     true
 }
 
-/// Whether a leave is what the calls made say.
-fn is_leave(list: &[Made], t: u64, number: u64, now: &InForce, leave: Leave) -> bool {
+/// What stands against a beginning, by the calls made.
+#[derive(Clone, Copy)]
+struct Reasons {
+    stale: bool,
+    spent: bool,
+    shed: bool,
+    throttled: bool,
+}
+
+fn reasons_of(list: &[Made], t: u64, number: u64, now: &InForce) -> Reasons {
     let standing = standing_of(list, number);
     let (open, _) = counts(list);
-    let is_stale = now
-        .idle_timeout
-        .is_some_and(|timeout| t >= standing.idle.saturating_add(timeout));
-    let is_spent = standing.used >= now.deliveries;
-    let is_shed = open > now.connection_limit as usize;
-    let admits = is_admitted(list, Counted::Beginnings, now, t);
+    Reasons {
+        stale: is_past(now.idle_timeout, standing.idle, t),
+        spent: standing.used >= now.deliveries,
+        shed: open > now.connection_limit as usize,
+        throttled: !is_admitted(list, Counted::Beginnings, now, t),
+    }
+}
+
+fn is_past(timeout: Option<u64>, idle: u64, t: u64) -> bool {
+    match timeout {
+        Some(timeout) => t >= idle.saturating_add(timeout),
+        None => false,
+    }
+}
+
+/// Whether a moment is the first from which on a beginning is admitted.
+fn is_first_admitted(list: &[Made], now: &InForce, u: u64) -> bool {
+    is_admitted(list, Counted::Beginnings, now, u)
+        && !is_admitted(list, Counted::Beginnings, now, u.wrapping_sub(1))
+}
+
+/// The first reason against a beginning, by a word.
+fn word(reasons: Reasons) -> &'static str {
+    if reasons.stale {
+        "stale"
+    } else if reasons.spent {
+        "spent"
+    } else if reasons.shed {
+        "shed"
+    } else if reasons.throttled {
+        "throttled"
+    } else {
+        "yes"
+    }
+}
+
+/// Whether a leave has this word, and its moment is the first that is admitted.
+fn is_leave(list: &[Made], now: &InForce, leave: Leave, word: &str) -> bool {
     match leave {
-        Leave::Stale => is_stale,
-        Leave::Spent => !is_stale && is_spent,
-        Leave::Shed => !is_stale && !is_spent && is_shed,
-        Leave::Throttled(u) => {
-            !is_stale
-                && !is_spent
-                && !is_shed
-                && !admits
-                && u > t
-                && is_admitted(list, Counted::Beginnings, now, u)
-                && !is_admitted(list, Counted::Beginnings, now, u.wrapping_sub(1))
-        }
-        Leave::Yes => !is_stale && !is_spent && !is_shed && admits,
+        Leave::Stale => word == "stale",
+        Leave::Spent => word == "spent",
+        Leave::Shed => word == "shed",
+        Leave::Throttled(u) => word == "throttled" && is_first_admitted(list, now, u),
+        Leave::Yes => word == "yes",
     }
 }
 
@@ -276,7 +358,96 @@ fn picked(alloc: Global, numbers: &mut Numbers, list: &[Made], opened: u32) -> R
     Ok(one.unwrap_or(any))
 }
 
-/// One made call on both, the path and the plain list, at a moment.
+/// Opens one more connection on both, the path and the plain list, where it is allowed.
+fn open_one(
+    rt: &impl Abort,
+    path: &mut Path,
+    list: &mut Vec<Made>,
+    t: u64,
+    conn: u64,
+    now: &InForce,
+) -> Result<(), Fail> {
+    let (open, _) = counts(list);
+    let allowed = open < now.connection_limit as usize
+        && is_admitted(list, Counted::Openings, now, t)
+        && is_admitted(list, Counted::Beginnings, now, t);
+    assert_eq!(rt; is_opened(path, t, conn, now)?, allowed);
+    if allowed {
+        let key = now.connection_key;
+        list.push(Made::Opened { t, conn, key })?;
+    }
+    Ok(())
+}
+
+/// Begins an attempt on both, where it is allowed.
+fn begin_one(
+    rt: &impl Abort,
+    path: &mut Path,
+    list: &mut Vec<Made>,
+    t: u64,
+    conn: u64,
+    now: &InForce,
+) -> Result<(), Fail> {
+    let before = standing_of(list, conn);
+    let Some(leave) = begun(path, t, conn, now)? else {
+        assert!(rt; !before.open || before.busy);
+        return Ok(());
+    };
+    assert!(rt; before.open && !before.busy);
+    assert!(rt; is_leave(list, now, leave, word(reasons_of(list, t, conn, now))));
+    if let Leave::Yes = leave {
+        let key = now.message_key;
+        list.push(Made::Begun { t, conn, key })?;
+    }
+    Ok(())
+}
+
+/// Ends an attempt on both, where there is one.
+fn end_one(
+    rt: &impl Abort,
+    path: &mut Path,
+    list: &mut Vec<Made>,
+    t: u64,
+    conn: u64,
+) -> Result<(), Fail> {
+    let before = standing_of(list, conn);
+    let busy = before.open && before.busy;
+    assert_eq!(rt; is_ended(path, t, conn), busy);
+    if busy {
+        list.push(Made::Ended { t, conn })?;
+    }
+    Ok(())
+}
+
+/// Closes a connection on both, where it is open and not busy.
+fn close_one(
+    rt: &impl Abort,
+    path: &mut Path,
+    list: &mut Vec<Made>,
+    conn: u64,
+    refused: bool,
+) -> Result<(), Fail> {
+    let before = standing_of(list, conn);
+    let idle = before.open && !before.busy;
+    assert_eq!(rt; is_closed(path, conn, refused), idle);
+    if idle {
+        list.push(Made::Closed { conn, refused })?;
+    }
+    Ok(())
+}
+
+/// How many connections were opened.
+fn opened_count(list: &[Made]) -> u32 {
+    let mut opened = 0_u32;
+    for made in list {
+        if let Made::Opened { .. } = made {
+            opened = opened.wrapping_add(1);
+        }
+    }
+    opened
+}
+
+/// One made call on both, at a moment.
 fn make_call(
     rt: &impl Abort,
     alloc: Global,
@@ -286,51 +457,35 @@ fn make_call(
     t: u64,
     now: &InForce,
 ) -> Result<(), Fail> {
-    let opened = list
-        .iter()
-        .filter(|made| matches!(made, Made::Opened { .. }))
-        .count() as u32;
+    let opened = opened_count(list);
     let conn = picked(alloc, numbers, list, opened)?;
-    let key = now.message_key;
-    let before = standing_of(list, conn);
+    match numbers.below(5) {
+        0 => open_one(rt, path, list, t, u64::from(opened).wrapping_add(1), now),
+        1 | 2 => begin_one(rt, path, list, t, conn, now),
+        3 => end_one(rt, path, list, t, conn),
+        _ => close_one(rt, path, list, conn, numbers.below(3) == 0),
+    }
+}
+
+/// The counts of both are the same.
+fn expect_counts(rt: &impl Abort, path: &Path, list: &[Made]) {
     let (open, refusals) = counts(list);
     assert_eq!(rt; path.open_connections(), open);
     assert_eq!(rt; path.refusals(), refusals);
-    match numbers.below(5) {
-        0 => {
-            let allowed = open < now.connection_limit as usize
-                && is_admitted(list, Counted::Openings, now, t)
-                && is_admitted(list, Counted::Beginnings, now, t);
-            let conn = u64::from(opened).wrapping_add(1);
-            assert_eq!(rt; is_opened(path, t, conn, now)?, allowed);
-            if allowed {
-                list.push(Made::Opened { t, conn, key })?;
-            }
-        }
-        1 | 2 => match begun(path, t, conn, now)? {
-            None => assert!(rt; !before.open || before.busy),
-            Some(leave) => {
-                assert!(rt; before.open && !before.busy && is_leave(list, t, conn, now, leave));
-                if leave == Leave::Yes {
-                    list.push(Made::Begun { t, conn, key })?;
-                }
-            }
-        },
-        3 => {
-            assert_eq!(rt; is_ended(path, t, conn), before.open && before.busy);
-            if before.open && before.busy {
-                list.push(Made::Ended { t, conn })?;
-            }
-        }
-        _ => {
-            let refused = numbers.below(3) == 0;
-            assert_eq!(rt; is_closed(path, conn, refused), before.open && !before.busy);
-            if before.open && !before.busy {
-                list.push(Made::Closed { conn, refused })?;
-            }
-        }
+}
+
+/// The options in force, by a made number.
+fn now_of<'a>(
+    number: u32,
+    usual: &'a InForce,
+    slowed: &'a InForce,
+    unlimited: &'a InForce,
+) -> &'a InForce {
+    match number {
+        0 => slowed,
+        1 => unlimited,
+        _ => usual,
     }
-    Ok(())
 }
 
 #[test]
@@ -344,12 +499,9 @@ fn made_calls_of_a_path(rt: HostRuntime) -> Result<(), Fail> {
     let mut t = 0_u64;
     for _ in 0..2000 {
         t = t.saturating_add(u64::from(numbers.below(120)));
-        let now = match numbers.below(4) {
-            0 => &slowed,
-            1 => &unlimited,
-            _ => &usual,
-        };
+        let now = now_of(numbers.below(4), &usual, &slowed, &unlimited);
         make_call(&rt, rt.alloc(), &mut numbers, &mut path, &mut list, t, now)?;
+        expect_counts(&rt, &path, &list);
     }
     assert!(rt; list.len() > 500);
     Ok(())

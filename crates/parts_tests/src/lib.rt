@@ -6,6 +6,8 @@
 #![tactic(auto)]
 
 #[cfg(test)]
+mod firings;
+#[cfg(test)]
 mod leases;
 #[cfg(test)]
 mod numbers;

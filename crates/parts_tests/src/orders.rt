@@ -308,7 +308,8 @@ fn make_call(
         0 => {
             let order = made_order(numbers);
             list.push(order)?;
-            assert_eq!(rt; given(alloc, book, &order)?, Some(list.len() as u32));
+            let number = u32::try_from(list.len()).ok();
+            assert_eq!(rt; given(alloc, book, &order)?, number);
         }
         1 => {
             let number = numbers.below(400);
