@@ -474,35 +474,30 @@ fn expect_counts(rt: &impl Abort, path: &Path, list: &[Made]) {
     assert_eq!(rt; path.refusals(), refusals);
 }
 
-/// The options in force, by a made number.
-fn now_of<'a>(
-    number: u32,
-    usual: &'a InForce,
-    slowed: &'a InForce,
-    unlimited: &'a InForce,
-) -> &'a InForce {
-    match number {
-        0 => slowed,
-        1 => unlimited,
-        _ => usual,
+/// Makes calls on a path and a plain list, each with one of the options in force, and says how many were made.
+fn make_calls(rt: &impl Abort, alloc: Global, options: &[InForce]) -> Result<usize, Fail> {
+    let mut path = Path::new(alloc);
+    let mut list = Vec::new(alloc);
+    let mut numbers = Numbers::from_seed(4);
+    let mut t = 0_u64;
+    for _ in 0..2000 {
+        t = t.saturating_add(u64::from(numbers.below(120)));
+        if let Some(now) = options.get(numbers.below(4) as usize) {
+            make_call(rt, alloc, &mut numbers, &mut path, &mut list, t, now)?;
+        }
+        expect_counts(rt, &path, &list);
     }
+    Ok(list.len())
 }
 
 #[test]
 fn made_calls_of_a_path(rt: HostRuntime) -> Result<(), Fail> {
-    let mut path = Path::new(rt.alloc());
-    let mut list = Vec::new(rt.alloc());
-    let mut numbers = Numbers::from_seed(4);
-    let usual = options(4, 20, Some("20/s"), 0)?;
-    let slowed = options(2, 10, Some("5/s,max_burst=1"), 3)?;
-    let unlimited = options(6, 20, None, 7)?;
-    let mut t = 0_u64;
-    for _ in 0..2000 {
-        t = t.saturating_add(u64::from(numbers.below(120)));
-        let now = now_of(numbers.below(4), &usual, &slowed, &unlimited);
-        make_call(&rt, rt.alloc(), &mut numbers, &mut path, &mut list, t, now)?;
-        expect_counts(&rt, &path, &list);
-    }
-    assert!(rt; list.len() > 500);
+    let options = [
+        options(4, 20, Some("20/s"), 0)?,
+        options(2, 10, Some("5/s,max_burst=1"), 3)?,
+        options(6, 20, None, 7)?,
+        options(3, 5, Some("20/s"), 0)?,
+    ];
+    assert!(rt; make_calls(&rt, rt.alloc(), &options)? > 500);
     Ok(())
 }
